@@ -1,0 +1,3 @@
+// Bytes as hexadecimal text, and back.
+pub mod decode;
+pub mod show;

@@ -1,0 +1,29 @@
+// Reads update texts in hexadecimal, one to a line, and shows what each says or why it is refused.
+mod fields;
+mod line;
+mod report;
+
+use crate::line::show_line;
+use crate::report::Tally;
+use crate::report::TallyDisplay;
+use std::error::AnyError;
+use std::io::BufRead;
+use std::io::BufReader;
+
+fn run(rt: &LibcRuntime) -> Result<(), AnyError> {
+    let heap = rt.alloc();
+    let mut tally = Tally::new();
+    let mut number = 0u64;
+    for line in BufReader::new(rt.stdin()).split(heap, b'\n') {
+        let line = line?;
+        number = number.saturating_add(1);
+        let shown = show_line(heap, line.as_slice(), &mut tally)?;
+        println!(rt, "{number}: {shown}")?;
+    }
+    println!(rt, "{tally}")?;
+    Ok(())
+}
+
+fn main(rt: LibcRuntime) -> Result<(), AnyError> {
+    rt.report(run(&rt))
+}

@@ -1,0 +1,56 @@
+-- The promises of the reader and the writer, from the two ways of the round trip.
+use mathlib.Core.Path.{_≡_, refl, sym, _∙_}
+use mathlib.Core.List.{List, _++_}
+use Prim.Native.Nat.{ℕ, _<_, _≤_}
+use native.Mathlib.Omega.{arith}
+use lib.ListN.{length, getD, take, drop}
+use mir.Syntax.{w8}
+use mir.Val.{Fits}
+use borrow.Author.Needs.{needs}
+use Rattle.std.proofs.shelf.Lists.{take-at}
+use Rattle.std.specs.declared.result.Result.{Result}
+use Rattle.std.specs.declared.result.Result.the-variants.{Ok, Err}
+use Rattle.update.specs.declared.refusal.Refusal.{Refusal}
+use Rattle.update.specs.declared.parts.Parts.{Parts}
+use Rattle.update.specs.Contents.{Contents, contents}
+use Rattle.update.specs.Laws.{Bytes, Only-text-of, Accepts-texts, Writes-texts}
+use Rattle.update.specs.Layout.{layout, Formed, Fitting, Text-of}
+use Rattle.update.specs.Reading.{reads}
+use Rattle.update.specs.Refusals.{Answers}
+use Rattle.update.specs.Writing.{faults, writes}
+use Rattle.update.proofs.Back.{read-then-written}
+use Rattle.update.proofs.Forming.{no-faults, tested-from-formed, text-of-written, written-of-text, text-length}
+use Rattle.update.proofs.Forth.{written-then-read}
+use Rattle.update.proofs.Steps.{no-ok, ok-same}
+
+pub bytes-fit : (t : List ℕ) → ((i : ℕ) → Fits w8 (getD t i 0)) → Bytes t
+bytes-fit t b i = let k = b i in search needs
+
+only-text-of : (t : List ℕ) (p : Contents) → Bytes t → reads t ≡ Ok p → Only-text-of p t
+only-text-of t p b h =
+    let w = read-then-written t p b h in
+    let x = text-of-written p t w in
+    let n = text-length p (x .formed) in
+    record {
+      text-of = x;
+      written = w;
+      only = λ q f y. ok-same q p (sym (written-then-read t q f (written-of-text q t y)) ∙ h);
+      at-least = rw (x .laid-out) (n .0);
+      at-most = rw (x .laid-out) (n .1);
+    }
+
+pub accepts-texts : (t : List ℕ) (r : Result Parts Refusal) → Bytes t → Answers contents r (reads t) → Accepts-texts t r
+accepts-texts t (Ok p) b h = only-text-of t (contents p) b h
+accepts-texts t (Err e) b h = λ q f y. no-ok e q (sym h ∙ written-then-read t q f (written-of-text q t y))
+
+-- what is formed has no faults, and stands at the front once written
+pub not-formed : (p : Contents) (e : Refusal) → faults p ≡ Err e → Formed p → ⊥
+not-formed p e h x = no-ok e tt (sym h ∙ no-faults p (tested-from-formed p x))
+
+at-front : (p : Contents) (t out : List ℕ) → Text-of p t → reads t ≡ Ok p → Writes-texts p out (Ok (length t)) (t ++ drop (length t) out)
+at-front p t out x r = rw (take-at t (drop (length t) out) (length t) refl) (x, r)
+
+pub writes-formed : (p : Contents) (out : List ℕ) → Fitting p → faults p ≡ Ok tt → Writes-texts p out (Ok (length (layout p))) (layout p ++ drop (length (layout p)) out)
+writes-formed p out f h =
+    let w : writes p ≡ Ok (layout p) = rw h in
+    at-front p (layout p) out (text-of-written p (layout p) w) (written-then-read (layout p) p f w)

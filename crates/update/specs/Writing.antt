@@ -1,0 +1,69 @@
+-- The writer: parts to text, or the refusal of the first check that fails, in the reader's order and at place 0.
+use mathlib.Core.Path.{_≡_}
+use mathlib.Core.Bool.{Bool, true, cond, _&&_, _||_, not}
+use mathlib.Core.List.{List, [], _++_}
+use Prim.Native.Nat.{ℕ, _/_, _%_}
+use lib.Dec.{eqb, ltb, leb}
+use lib.ListN.{length, drop}
+use lib.Seq.{paste}
+use Rattle.std.specs.Options.{isSome}
+use Rattle.std.specs.Results.{isOk}
+use Rattle.std.specs.declared.option.Option.{Option}
+use Rattle.std.specs.declared.option.Option.the-variants.{Some, None}
+use Rattle.std.specs.declared.result.Result.{Result}
+use Rattle.std.specs.declared.result.Result.the-variants.{Ok, Err}
+use Rattle.update.specs.declared.refusal.Refusal.{Refusal}
+use Rattle.update.specs.declared.refusal.Refusal.the-variants.{BadMap, BadPredecessors, BadValueLength, SmallBuffer}
+use Rattle.update.specs.Contents.{Contents}
+use Rattle.update.specs.Layout.{layout}
+use Rattle.update.specs.Reading.{ascending-at}
+use Rattle.update.specs.Refusals.{bind}
+
+-- what a field is held to where it is there
+abbrev pub every : Option (List ℕ) → (List ℕ → Bool) → Bool
+every None f = true
+every (Some l) f = f l
+
+abbrev pub good-predecessors : List ℕ → Bool
+good-predecessors l =
+    eqb (length l % 32) 0
+    && (leb 1 (length l / 32) && (leb (length l / 32) 8 && isOk (ascending-at 0 [] (length l / 32) l)))
+
+abbrev pub good-value : List ℕ → Bool
+good-value l = leb 1 (length l) && leb (length l) 64
+
+abbrev pub good-seal : List ℕ → Bool
+good-seal l = eqb (length l) 32
+
+abbrev pub faults : Contents → Result (Unit {0}) Refusal
+faults p =
+    cond (isSome (p .address) || not (isSome (p .value)))
+    (cond (every (p .predecessors) good-predecessors)
+    (cond (every (p .value) good-value)
+    (cond (every (p .seal) good-seal)
+    (Ok tt)
+    (Err BadMap))
+    (Err (BadValueLength 0)))
+    (Err (BadPredecessors 0)))
+    (Err BadMap)
+
+abbrev pub writes : Contents → Result (List ℕ) Refusal
+writes p = bind (faults p) (λ _. Ok (layout p))
+
+-- the answer for a buffer of that length
+abbrev pub writing : ℕ → Contents → Result (List ℕ) Refusal
+writing room p = cond (ltb room 363) (Err SmallBuffer) (writes p)
+
+-- a part written into the buffer
+unfoldable pub placed : ℕ → List ℕ → List ℕ → List ℕ
+placed at part out = paste out at part (length part)
+
+-- what a call that writes leaves in the buffer: its text at the start, later bytes as they were
+abbrev pub after : Result (List ℕ) Refusal → List ℕ → List ℕ
+after (Ok t) out = t ++ drop (length t) out
+after (Err e) out = out
+
+-- and what it answers
+abbrev pub size : Result (List ℕ) Refusal → Result ℕ Refusal
+size (Ok t) = Ok (length t)
+size (Err e) = Err e
