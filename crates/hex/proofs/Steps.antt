@@ -1,6 +1,5 @@
 -- One turn of the decoder, and its ends.
 use mathlib.Core.Path.{_≡_, refl, sym, ap, _∙_}
-use mathlib.Core.Bool.{Bool, true, false, cond}
 use mathlib.Core.List.{List, [], _∷_, _++_, append-nil, append-assoc}
 use Prim.Native.Nat.{ℕ, suc, _+_, _*_, _/_, _%_, _<_}
 use native.Mathlib.Nat.{add-assoc}
@@ -8,7 +7,6 @@ use native.Mathlib.Omega.{arith}
 use lib.ListN.{length, getD, drop}
 use Rattle.std.proofs.shelf.Lists.{drop-more, drop-all}
 use Rattle.std.proofs.shelf.Ways.{tells}
-use Rattle.std.specs.Of.Vec.{vec-items}
 use Rattle.std.specs.declared.alloc.Global.{Global}
 use Rattle.std.specs.declared.result.Result.{Result}
 use Rattle.std.specs.declared.result.Result.the-variants.{Ok, Err}
@@ -16,7 +14,7 @@ use Rattle.hex.specs.declared.decode.HexError.{HexError}
 use Rattle.hex.specs.declared.decode.HexError.the-variants.{NotADigit, OddLength, NoMemory}
 use Rattle.std.specs.declared.vec.Vec.{Vec}
 use Rattle.hex.specs.Decoding.{digit-at, bind, byte-of, bytes-at, Decodes, Decodes-shown}
-use Rattle.hex.specs.Showing.{digit-of, byte-shown, shown-bytes}
+use Rattle.hex.specs.Showing.{digit-of, shown-bytes}
 
 -- the bytes found so far, and those to come
 abbrev pub behind : List ℕ → Result (List ℕ) HexError → Result (List ℕ) HexError

@@ -1,5 +1,4 @@
 // A line of input, from its characters to what is shown of it.
-ghost use mathlib.Core.Path.{_≡_};
 ghost use Rattle.inspect.specs.Lines.{Shows-report, Shows-line};
 use crate::report::Report;
 use crate::report::ReportDisplay;

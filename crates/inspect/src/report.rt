@@ -28,10 +28,10 @@ impl<'a> Report<'a> {
         }
     }
 
-    pub fn of_fault(fault: HexError) -> Report<'a>
-        ensures { λ r. ⌜ r ≡ Report.NotHex fault ⌝ }
+    pub fn of_fault(error: HexError) -> Report<'a>
+        ensures { λ r. ⌜ r ≡ Report.NotHex error ⌝ }
     {
-        Report::NotHex(fault)
+        Report::NotHex(error)
     }
 }
 

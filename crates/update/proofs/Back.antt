@@ -6,14 +6,13 @@ use mathlib.Core.List.{List, [], _∷_, _++_, append-nil, append-assoc}
 use Prim.Native.Nat.{ℕ, zero, suc, _+_, _*_, _/_, _%_, _<_}
 use native.Mathlib.Omega.{arith}
 use lib.Dec.{eqb, ltb, leb}
-use lib.ListN.{length, getD, take, drop, take-append-drop}
+use lib.ListN.{length, take, take-append-drop}
 use Rattle.std.specs.Options.{isSome}
 use Rattle.std.proofs.shelf.Lists.{length-take-le, nil-from-length, take-take}
 use Rattle.std.proofs.shelf.Tests.{ltb-true, cases-lt, ltb-false, eqb-true, eq-eqb, and-parts}
 use Rattle.std.specs.declared.option.Option.{Option}
 use Rattle.std.specs.declared.option.Option.the-variants.{Some, None}
-use Rattle.std.specs.declared.result.Result.{Result}
-use Rattle.std.specs.declared.result.Result.the-variants.{Ok, Err}
+use Rattle.std.specs.declared.result.Result.the-variants.{Ok}
 use Rattle.update.specs.declared.parts.Address.{Address}
 use Rattle.update.specs.declared.refusal.Refusal.{Refusal}
 use Rattle.update.specs.Contents.{Contents}
@@ -21,7 +20,7 @@ use Rattle.update.specs.Laws.{Bytes}
 use Rattle.update.specs.Layout.{map-of, author-bytes, address-bytes, counted-bytes, plain-bytes, layout}
 use Rattle.update.specs.Reading.{Read, cut-at, count-at, author-at, address-at, ascending-at, predecessors-at, value-at, seal-at, optional, stands, map-allowed, end-at, reads}
 use Rattle.update.specs.Writing.{every, good-predecessors, good-value, good-seal, writes}
-use Rattle.update.proofs.Ascending.{ascending-whole, ascending-same}
+use Rattle.update.proofs.Ascending.{ascending-same}
 use Rattle.update.proofs.Forming.{Tested, no-faults}
 use Rattle.update.proofs.Steps.{no-ok, ok-same, bind-then, pass, stay}
 

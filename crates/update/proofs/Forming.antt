@@ -1,7 +1,7 @@
 -- The writer's checks pass exactly where the parts are formed; and how long their fields are.
-use mathlib.Core.Path.{_≡_, refl, sym, _∙_}
-use mathlib.Core.Bool.{Bool, true, false, cond, _&&_, _||_, not}
-use mathlib.Core.List.{List, [], _∷_, _++_}
+use mathlib.Core.Path.{_≡_, refl, sym}
+use mathlib.Core.Bool.{Bool, true, _||_, not}
+use mathlib.Core.List.{List, []}
 use Prim.Native.Nat.{ℕ, _+_, _*_, _/_, _%_, _≤_}
 use native.Mathlib.Omega.{arith}
 use lib.Dec.{eqb, leb}
@@ -17,12 +17,10 @@ use Rattle.std.specs.declared.result.Result.the-variants.{Ok, Err}
 use Rattle.update.specs.declared.parts.Address.{Address}
 use Rattle.update.specs.declared.refusal.Refusal.{Refusal}
 use Rattle.update.specs.Contents.{Contents}
-use Rattle.update.specs.Layout.{map-of, author-bytes, address-bytes, counted-bytes, plain-bytes, layout, Digests, Formed, Text-of}
-use Rattle.update.specs.Order.{bytes-rank, digests-in}
-use Rattle.update.specs.Reading.{ascending-at}
+use Rattle.update.specs.Layout.{address-bytes, counted-bytes, plain-bytes, layout, Digests, Formed, Text-of}
 use Rattle.update.specs.Writing.{every, good-predecessors, good-value, good-seal, faults, writes}
 use Rattle.update.proofs.Ascending.{sorted-from-ascending, ascending-from-sorted, all-above-empty}
-use Rattle.update.proofs.Steps.{no-ok, ok-same, bind-then, pass}
+use Rattle.update.proofs.Steps.{ok-same, bind-then, pass}
 
 pub is-ok : (r : Result (Unit {0}) Refusal) → isOk r ≡ true → r ≡ Ok tt
 is-ok (Ok x) h = refl

@@ -6,7 +6,7 @@ use Prim.Native.Nat.{ℕ, suc, _+_, _*_, _/_, _%_, _^_, _<_}
 use native.Mathlib.Nat.{div-div-eq-div-mul}
 use native.Mathlib.Omega.{arith}
 use lib.Dec.{eqb, leb}
-use lib.ListN.{length, take, length-append}
+use lib.ListN.{length, length-append}
 use Rattle.std.specs.Options.{isSome}
 use Rattle.std.proofs.shelf.Lists.{take-at, drop-at, take-append-le}
 use Rattle.std.proofs.shelf.Tests.{ne-eqb, eqb-true, le-ltb, and-parts}
@@ -15,10 +15,9 @@ use Rattle.std.specs.declared.option.Option.{Option}
 use Rattle.std.specs.declared.option.Option.the-variants.{Some, None}
 use Rattle.std.specs.declared.result.Result.the-variants.{Ok}
 use Rattle.update.specs.declared.parts.Address.{Address}
-use Rattle.update.specs.declared.refusal.Refusal.{Refusal}
 use Rattle.update.specs.Contents.{Contents}
 use Rattle.update.specs.Layout.{map-of, author-bytes, address-bytes, counted-bytes, plain-bytes, layout, Fitting}
-use Rattle.update.specs.Reading.{Read, cut-at, count-at, author-at, address-at, predecessors-at, value-at, seal-at, optional, stands, map-allowed, reads}
+use Rattle.update.specs.Reading.{Read, cut-at, author-at, address-at, predecessors-at, value-at, seal-at, optional, stands, map-allowed, reads}
 use Rattle.update.specs.Writing.{every, good-predecessors, good-value, good-seal, faults, writes}
 use Rattle.update.proofs.Ascending.{ascending-same}
 use Rattle.update.proofs.Back.{glue}

@@ -1,4 +1,5 @@
 pub mod Steps
+pub mod Faults
 pub mod Ascending
 pub mod Forming
 pub mod Placing

@@ -1,16 +1,14 @@
 -- One step of each reader.
-use mathlib.Core.Path.{_≡_, refl, ap, subst}
+use mathlib.Core.Path.{_≡_, refl, subst}
 use mathlib.Core.Bool.{Bool, true, false, cond}
-use mathlib.Core.List.{List, [], _∷_}
-use Prim.Native.Nat.{ℕ, suc, _+_, _-_, _≤_}
+use mathlib.Core.List.{List}
+use Prim.Native.Nat.{ℕ, suc, _-_}
 use native.Mathlib.Omega.{arith}
-use lib.Dec.{ltb}
-use lib.ListN.{length, take, drop, length-drop}
-use Rattle.std.proofs.shelf.Tests.{ltb-false}
+use lib.ListN.{length}
 use Rattle.std.specs.declared.result.Result.{Result}
 use Rattle.std.specs.declared.result.Result.the-variants.{Ok, Err}
 use Rattle.update.specs.declared.refusal.Refusal.{Refusal}
-use Rattle.update.specs.declared.refusal.Refusal.the-variants.{BadLength, BadPredecessors}
+use Rattle.update.specs.declared.refusal.Refusal.the-variants.{BadPredecessors}
 use Rattle.update.specs.Order.{below}
 use Rattle.update.specs.Reading.{cut-at, ascending-at}
 use Rattle.update.specs.Refusals.{bind, Answers}
@@ -35,12 +33,6 @@ pass false r e x h = absurd (no-ok e x h)
 pub stay : {A : Type 0} (b : Bool) (r : Result A Refusal) (e : Refusal) (x : A) → cond b (Err e) r ≡ Ok x → (b ≡ false) × (r ≡ Ok x)
 stay false r e x h = (refl, h)
 stay true r e x h = absurd (no-ok e x h)
-
-pub cut-whole : (total n : ℕ) (l : List ℕ) (p : List ℕ × List ℕ) → cut-at total n l ≡ Ok p → (n ≤ length l) × (length (p .1) + n ≡ length l)
-cut-whole total n l p h =
-    let k = stay (ltb (length l) n) _ _ p h in
-    let le = ltb-false (length l) n (k .0) in
-    (le, omega (arith, simp length-drop at (ap (λ (x : List ℕ × List ℕ). length (x .1)) (ok-same _ _ (k .1)))))
 
 pub ascending-more : (total : ℕ) (before l : List ℕ) (n m : ℕ) (p : List ℕ × List ℕ) → n ≡ suc m → cut-at total 32 l ≡ Ok p → below before (p .0) ≡ true → ascending-at total before n l ≡ ascending-at total (p .0) m (p .1)
 ascending-more total before l n m p e h b = simp (e, h, b)

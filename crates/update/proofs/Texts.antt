@@ -1,24 +1,25 @@
 -- The promises of the reader and the writer, from the two ways of the round trip.
 use mathlib.Core.Path.{_≡_, refl, sym, _∙_}
 use mathlib.Core.List.{List, _++_}
-use Prim.Native.Nat.{ℕ, _<_, _≤_}
+use Prim.Native.Nat.{ℕ}
 use native.Mathlib.Omega.{arith}
-use lib.ListN.{length, getD, take, drop}
+use lib.ListN.{length, getD, drop}
 use mir.Syntax.{w8}
 use mir.Val.{Fits}
 use borrow.Author.Needs.{needs}
-use Rattle.std.proofs.shelf.Lists.{take-at}
+use Rattle.std.proofs.shelf.Lists.{take-at, drop-at}
 use Rattle.std.specs.declared.result.Result.{Result}
 use Rattle.std.specs.declared.result.Result.the-variants.{Ok, Err}
 use Rattle.update.specs.declared.refusal.Refusal.{Refusal}
 use Rattle.update.specs.declared.parts.Parts.{Parts}
 use Rattle.update.specs.Contents.{Contents, contents}
-use Rattle.update.specs.Laws.{Bytes, Only-text-of, Accepts-texts, Writes-texts}
-use Rattle.update.specs.Layout.{layout, Formed, Fitting, Text-of}
+use Rattle.update.specs.Laws.{Bytes, Only-text-of, Accepts-texts, Written, Unwritten}
+use Rattle.update.specs.Layout.{layout, Fitting, Text-of}
 use Rattle.update.specs.Reading.{reads}
 use Rattle.update.specs.Refusals.{Answers}
 use Rattle.update.specs.Writing.{faults, writes}
 use Rattle.update.proofs.Back.{read-then-written}
+use Rattle.update.proofs.Faults.{Fault, fault-of, reads-faults, parts-faults}
 use Rattle.update.proofs.Forming.{no-faults, tested-from-formed, text-of-written, written-of-text, text-length}
 use Rattle.update.proofs.Forth.{written-then-read}
 use Rattle.update.proofs.Steps.{no-ok, ok-same}
@@ -41,16 +42,31 @@ only-text-of t p b h =
 
 pub accepts-texts : (t : List ℕ) (r : Result Parts Refusal) → Bytes t → Answers contents r (reads t) → Accepts-texts t r
 accepts-texts t (Ok p) b h = only-text-of t (contents p) b h
-accepts-texts t (Err e) b h = λ q f y. no-ok e q (sym h ∙ written-then-read t q f (written-of-text q t y))
+accepts-texts t (Err e) b h = record {
+  of-none = λ q f y. no-ok e q (sym h ∙ written-then-read t q f (written-of-text q t y));
+  number = fault .0;
+  place = fault .1;
+}
+  where
+    fault : Fault (length t) e
+    fault = fault-of e h (reads-faults t)
 
 -- what is formed has no faults, and stands at the front once written
-pub not-formed : (p : Contents) (e : Refusal) → faults p ≡ Err e → Formed p → ⊥
-not-formed p e h x = no-ok e tt (sym h ∙ no-faults p (tested-from-formed p x))
+pub refused : (p : Contents) (out : List ℕ) (e : Refusal) → faults p ≡ Err e → Unwritten p out e out
+refused p out e h =
+    let fault : Fault 0 e = fault-of e h (parts-faults p) in
+    record {
+      not-formed = λ _ x. no-ok e tt (sym h ∙ no-faults p (tested-from-formed p x));
+      place = omega arith;
+      unaltered = refl;
+    }
 
-at-front : (p : Contents) (t out : List ℕ) → Text-of p t → reads t ≡ Ok p → Writes-texts p out (Ok (length t)) (t ++ drop (length t) out)
-at-front p t out x r = rw (take-at t (drop (length t) out) (length t) refl) (x, r)
+at-front : (p : Contents) (t out : List ℕ) → Text-of p t → reads t ≡ Ok p → Written p out (length t) (t ++ drop (length t) out)
+at-front p t out x r =
+    let front = take-at t (drop (length t) out) (length t) refl in
+    record { text-of = rw front x; read-back = rw front r; later = drop-at t (drop (length t) out) (length t) refl }
 
-pub writes-formed : (p : Contents) (out : List ℕ) → Fitting p → faults p ≡ Ok tt → Writes-texts p out (Ok (length (layout p))) (layout p ++ drop (length (layout p)) out)
-writes-formed p out f h =
+pub written : (p : Contents) (out : List ℕ) → Fitting p → faults p ≡ Ok tt → Written p out (length (layout p)) (layout p ++ drop (length (layout p)) out)
+written p out f h =
     let w : writes p ≡ Ok (layout p) = rw h in
     at-front p (layout p) out (text-of-written p (layout p) w) (written-then-read (layout p) p f w)

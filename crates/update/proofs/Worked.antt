@@ -4,7 +4,6 @@ use mathlib.Core.Bool.{false}
 use mathlib.Core.List.{List, [], _∷_, _++_}
 use Prim.Native.Nat.{ℕ}
 use native.Mathlib.Omega.{arith}
-use lib.Dec.{eqb, ltb}
 use lib.ListN.{length, take, length-append}
 use Rattle.std.proofs.shelf.Tests.{eq-eqb, le-ltb}
 use Rattle.std.proofs.shelf.Lists.{take-at, drop-at, take-all}

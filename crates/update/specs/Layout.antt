@@ -1,8 +1,8 @@
 -- How a text is laid out: a map byte, then the fields whose bit stands in it, in the order of their bits.
 use mathlib.Core.Path.{_≡_}
-use mathlib.Core.Bool.{Bool, true, cond, _||_, not}
+use mathlib.Core.Bool.{true, cond, _||_, not}
 use mathlib.Core.List.{List, [], _∷_, _++_}
-use Prim.Native.Nat.{ℕ, _+_, _*_, _/_, _%_, _^_, _≤_, _<_}
+use Prim.Native.Nat.{ℕ, _+_, _/_, _%_, _^_, _≤_, _<_}
 use lib.ListN.{length}
 use Rattle.std.specs.Options.{isSome, Cases}
 use Rattle.std.specs.Sorted.{Sorted}

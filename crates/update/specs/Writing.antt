@@ -1,5 +1,4 @@
 -- The writer: parts to text, or the refusal of the first check that fails, in the reader's order and at place 0.
-use mathlib.Core.Path.{_≡_}
 use mathlib.Core.Bool.{Bool, true, cond, _&&_, _||_, not}
 use mathlib.Core.List.{List, [], _++_}
 use Prim.Native.Nat.{ℕ, _/_, _%_}

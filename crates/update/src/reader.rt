@@ -1,40 +1,30 @@
 // The reader of update texts. The order of its checks decides which refusal and which place is
 // answered: the map, then each field in turn, then bytes left over.
+//
+// Each field is read from the front of `rest` and answered with what follows it. `total` is the length
+// of the whole text: the place of what is left in it is `total` less its length, and a text that ends
+// inside a field is refused at `total`.
 ghost use mathlib.Core.Path.{_≡_};
 ghost use mathlib.Core.List.{[]};
-ghost use Prim.Native.Nat.{_*_, _≤_};
-ghost use lib.ListN.{length};
-ghost use Rattle.std.specs.Vec.{made};
 ghost use Rattle.update.specs.Contents.{borrowed, contents};
 ghost use Rattle.update.specs.Laws.{Accepts-texts};
 ghost use Rattle.update.specs.Order.{below};
 ghost use Rattle.update.specs.Reading.{cut-at, count-at, author-at, address-at, ascending-at, predecessors-at, value-at, seal-at, optional, stands, map-allowed, end-at, fields-at, reads};
 ghost use Rattle.update.specs.Refusals.{Answers};
+use crate::layout::ADDRESS;
+use crate::layout::AUTHOR;
+use crate::layout::DIGEST_LEN;
+use crate::layout::MAX_PREDECESSORS;
+use crate::layout::MAX_VALUE_LEN;
+use crate::layout::PREDECESSORS;
+use crate::layout::SEAL;
+use crate::layout::SEAL_LEN;
+use crate::layout::UNUSED;
+use crate::layout::VALUE;
 use crate::parts::Address;
 use crate::parts::Field;
 use crate::parts::Parts;
 use crate::refusal::Refusal;
-
-pub(crate) const DIGEST_LEN: usize = 32;
-
-pub(crate) const SEAL_LEN: usize = 32;
-
-pub(crate) const MAX_PREDECESSORS: u8 = 8;
-
-pub(crate) const MAX_VALUE_LEN: u8 = 64;
-
-// Bits of the map.
-pub(crate) const AUTHOR: u8 = 1;
-
-pub(crate) const ADDRESS: u8 = 2;
-
-pub(crate) const PREDECESSORS: u8 = 4;
-
-pub(crate) const VALUE: u8 = 8;
-
-pub(crate) const SEAL: u8 = 16;
-
-const UNUSED: u8 = 32;
 
 fn cut<'a>(rest: &'a [u8], n: usize, total: usize) -> Result<(&'a [u8], &'a [u8]), Refusal>
     ensures { λ r. ⌜ Answers (λ p. (p .0 .now, p .1 .now)) r (cut-at total n (now (rest .entry))) ⌝ }
@@ -45,6 +35,7 @@ fn cut<'a>(rest: &'a [u8], n: usize, total: usize) -> Result<(&'a [u8], &'a [u8]
     Ok(rest.split_at(n))
 }
 
+// A byte from 1 to `most`, else `fault`.
 fn read_count<'a>(
     rest: &'a [u8],
     most: u8,
@@ -77,10 +68,9 @@ fn is_below(a: &[u8], b: &[u8]) -> bool
     a < b
 }
 
-// The digests at the front, each whole, then above the one before it.
+// The digests at the front: each whole, then above the one before it.
 pub(crate) fn check_digests(mut rest: &[u8], count: u8, total: usize) -> Result<(), Refusal>
-    ensures answer { λ r. ⌜ Answers (λ _. tt) r (ascending-at total [] count (now (rest .entry))) ⌝ }
-    ensures whole { λ r. ⌜ made r (λ _. 32 * count ≤ length (now (rest .entry))) ⌝ }
+    ensures { λ r. ⌜ Answers (λ _. tt) r (ascending-at total [] count (now (rest .entry))) ⌝ }
 {
     let mut before: &[u8] = &[];
     for _k in 0..count {

@@ -8,23 +8,21 @@ ghost use Rattle.update.specs.Contents.{borrowed, contents};
 ghost use Rattle.update.specs.Laws.{Writes-texts};
 ghost use Rattle.update.specs.Layout.{map-of, address-bytes, counted-bytes, plain-bytes, layout};
 ghost use Rattle.update.specs.Writing.{every, good-predecessors, good-value, good-seal, faults, writing, placed, after, size};
+use crate::layout::ADDRESS;
+use crate::layout::AUTHOR;
+use crate::layout::DIGEST_LEN;
+use crate::layout::MAX_PREDECESSORS;
+use crate::layout::MAX_TEXT_LEN;
+use crate::layout::MAX_VALUE_LEN;
+use crate::layout::PREDECESSORS;
+use crate::layout::SEAL;
+use crate::layout::SEAL_LEN;
+use crate::layout::VALUE;
 use crate::parts::Address;
 use crate::parts::Field;
 use crate::parts::Parts;
-use crate::reader::ADDRESS;
-use crate::reader::AUTHOR;
-use crate::reader::DIGEST_LEN;
-use crate::reader::MAX_PREDECESSORS;
-use crate::reader::MAX_VALUE_LEN;
-use crate::reader::PREDECESSORS;
-use crate::reader::SEAL;
-use crate::reader::SEAL_LEN;
-use crate::reader::VALUE;
 use crate::reader::check_digests;
 use crate::refusal::Refusal;
-
-// The longest text, and the least room for writing one.
-pub const MAX_TEXT_LEN: usize = 363;
 
 fn are_predecessors(list: Field) -> bool
     ensures { λ r. ⌜ r ≡ every (borrowed (list .entry)) good-predecessors ⌝ }

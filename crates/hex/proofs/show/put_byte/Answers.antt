@@ -1,5 +1,5 @@
 use mathlib.Core.Path.{refl}
-use Prim.Native.Nat.{_<_, _/_, _%_}
+use Prim.Native.Nat.{_/_, _%_}
 use native.Mathlib.Omega.{arith}
 use Rattle.std.proofs.Writes.{put-is}
 use Rattle.hex.proofs.Printing.{onward, digit-encoded}

@@ -2,23 +2,21 @@ use mathlib.Core.Path.{_≡_, sym, _∙_}
 use Prim.Native.Nat.{suc, _-_, _+_}
 use native.Mathlib.Omega.{arith}
 use Rattle.std.proofs.shelf.Results.{err-from-errBy}
-use Rattle.update.proofs.Steps.{ascending-more, ascending-cut, ascending-not, cut-whole}
+use Rattle.update.proofs.Steps.{ascending-more, ascending-cut, ascending-not}
 use Rattle.update.proofs.reader.check_digests.Needs as need
 
 pub returns-in-Break-digest : need.returns-in-Break-digest
 returns-in-Break-digest c =
     let p = err-from-errBy (c .from-residual .result) (c .from-residual .ensures .1) in
     let n : c .args .count - c .loop-k .-k ≡ suc (c .args .count - (c .loop-k .-k + 1)) = omega arith in
-    rw (p .1, p .2) (record { answer = sym (c .loop-k .inv .1) ∙ ascending-cut _ _ _ _ _ _ n (c .in-Break-digest .ensures tt); whole = tt })
+    rw (p .1, p .2) (sym (c .loop-k .inv) ∙ ascending-cut _ _ _ _ _ _ n (c .in-Break-digest .ensures tt))
 
 pub returns-then-not-is-below : need.returns-then-not-is-below
 returns-then-not-is-below c =
     let n : c .args .count - c .loop-k .-k ≡ suc (c .args .count - (c .loop-k .-k + 1)) = omega arith in
-    record { answer = rw (c .saturating-sub-place .ensures) (sym (c .loop-k .inv .1) ∙ ascending-not _ _ _ _ _ _ n (c .in-Continue-digest .ensures tt) (sym (c .if-not-is-below .ensures tt))); whole = tt }
+    rw (c .saturating-sub-place .ensures) (sym (c .loop-k .inv) ∙ ascending-not _ _ _ _ _ _ n (c .in-Continue-digest .ensures tt) (sym (c .if-not-is-below .ensures tt)))
 
 pub loop-k-again : need.loop-k-again
 loop-k-again c =
-    let h = c .in-Continue-digest .ensures tt in
     let n : c .args .count - c .loop-k .-k ≡ suc (c .args .count - (c .loop-k .-k + 1)) = omega arith in
-    let w = cut-whole _ _ _ _ h in
-    (omega arith, sym (ascending-more _ _ _ _ _ _ n h (sym (c .if-not-is-below .ensures tt))) ∙ c .loop-k .inv .1)
+    sym (ascending-more _ _ _ _ _ _ n (c .in-Continue-digest .ensures tt) (sym (c .if-not-is-below .ensures tt))) ∙ c .loop-k .inv

@@ -1,9 +1,9 @@
-use mathlib.Core.Path.{_≡_, ap, _∙_, sym, refl}
+use mathlib.Core.Path.{ap, _∙_, refl}
 use mathlib.Core.List.{List, [], _∷_}
 use Prim.Native.Nat.{ℕ, _+_}
 use native.Mathlib.Omega.{arith}
 use lib.ListN.{length}
-use Rattle.update.specs.Contents.{contents, borrowed}
+use Rattle.update.specs.Contents.{contents}
 use Rattle.update.specs.Layout.{map-of}
 use Rattle.update.specs.Writing.{placed}
 use Rattle.update.proofs.Forming.{tested, formed, lengths}

@@ -1,7 +1,5 @@
-use mathlib.Core.Path.{_≡_, refl, ap}
-use Prim.Native.Nat.{_<_}
+use mathlib.Core.Path.{refl, ap}
 use native.Mathlib.Omega.{arith}
-use lib.ListN.{length}
 use Rattle.std.proofs.Writes.{put-is}
 use Rattle.std.proofs.shelf.Lists.{take-all}
 use Rattle.hex.specs.Showing.{shown-bytes}

@@ -1,4 +1,4 @@
-use mathlib.Core.Path.{_≡_, _∙_, sym}
+use mathlib.Core.Path.{_≡_, refl, sym, _∙_}
 use native.Mathlib.Omega.{arith}
 use lib.ListN.{length}
 use borrow.Author.Needs.{needs}
@@ -9,11 +9,11 @@ use Rattle.update.specs.Contents.{contents}
 use Rattle.update.specs.Layout.{layout, Fitting}
 use Rattle.update.specs.Writing.{faults, after}
 use Rattle.update.proofs.Placing.{placed-front}
-use Rattle.update.proofs.Texts.{not-formed, writes-formed}
+use Rattle.update.proofs.Texts.{refused, written}
 use Rattle.update.proofs.parts.Parts.write.Needs as need
 
 pub returns-then-out-lt-MAX-TEXT-LEN : need.returns-then-out-lt-MAX-TEXT-LEN
-returns-then-out-lt-MAX-TEXT-LEN c = record { answer = search needs; bytes = search needs; writes-texts = λ room _. omega arith }
+returns-then-out-lt-MAX-TEXT-LEN c = record { answer = search needs; bytes = search needs; writes-texts = record { not-formed = λ room _. omega arith; place = refl; unaltered = refl } }
 
 pub returns-in-Break-check-parts : need.returns-in-Break-check-parts
 returns-in-Break-check-parts c =
@@ -23,7 +23,7 @@ returns-in-Break-check-parts c =
     rw (e .1, e .2) (record {
       answer = simp (small, fault);
       bytes = simp (small, fault);
-      writes-texts = λ _ x. not-formed (contents (c .args .self)) _ fault x;
+      writes-texts = refused (contents (c .args .self)) (c .args .out .now) _ fault;
     })
 
 pub returns : need.returns
@@ -37,5 +37,5 @@ returns c =
     record {
       answer = simp (small, fault, c .put-text .ensures .end);
       bytes = left ∙ simp (small, fault);
-      writes-texts = rw (c .put-text .ensures .end, left) (writes-formed p out fits fault);
+      writes-texts = rw (c .put-text .ensures .end, left) (written p out fits fault);
     }

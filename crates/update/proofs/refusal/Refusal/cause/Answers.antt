@@ -1,4 +1,4 @@
-use mathlib.Core.Path.{_≡_, sym, ap}
+use mathlib.Core.Path.{sym, ap}
 use Rattle.update.specs.Refusals.{cause-of}
 use Rattle.update.proofs.refusal.Refusal.cause.Needs as need
 
