@@ -2,25 +2,22 @@
 use mathlib.Core.Path.{_≡_}
 use mathlib.Core.Bool.{cond, _&&_}
 use mathlib.Core.List.{List, [], _∷_, _++_}
-use Prim.Native.Nat.{ℕ, _+_, _-_, _*_, _<_}
+use Prim.Native.Nat.{ℕ, _+_, _-_, _*_, _/_, _<_, _≤_}
 use lib.Chars.{codes}
-use lib.Dec.{leb}
-use lib.ListN.{getD}
-use Rattle.std.specs.Of.Vec.{vec-items}
+use lib.Dec.{leb, ltb}
+use lib.ListN.{length, getD, take, drop}
 use Rattle.std.specs.Written.{decimal}
-use Rattle.std.specs.declared.alloc.Global.{Global}
 use Rattle.std.specs.declared.result.Result.{Result}
 use Rattle.std.specs.declared.result.Result.the-variants.{Ok, Err}
-use Rattle.std.specs.declared.vec.Vec.{Vec}
 use Rattle.hex.specs.declared.decode.HexError.{HexError}
-use Rattle.hex.specs.declared.decode.HexError.the-variants.{NotADigit, OddLength, NoMemory}
+use Rattle.hex.specs.declared.decode.HexError.the-variants.{SmallBuffer, NotADigit, OddLength}
 use Rattle.hex.specs.Showing.{shown-bytes}
 
 -- a fault in words
 abbrev pub fault-shown : HexError → List ℕ
+fault-shown SmallBuffer = codes "a small buffer"
 fault-shown (NotADigit place) = codes "no digit at " ++ decimal place
 fault-shown OddLength = codes "an odd number of digits"
-fault-shown NoMemory = codes "no memory"
 
 -- the value of the digit c, which stands at that place
 abbrev pub digit-at : ℕ → ℕ → Result ℕ HexError
@@ -50,14 +47,30 @@ bytes-at place (c ∷ d ∷ l) =
     bind (bytes-at (place + 2) l) λ bytes.
     Ok (b ∷ bytes)
 
--- the answer to a text: its bytes, its first fault, or that there is no memory for them
-abbrev pub Decodes : List ℕ → Result (Vec ℕ Global) HexError → Type 0
-Decodes text (Ok bytes) = bytes-at 0 text ≡ Ok (vec-items bytes)
-Decodes text (Err (NotADigit place)) = bytes-at 0 text ≡ Err (NotADigit place)
-Decodes text (Err OddLength) = bytes-at 0 text ≡ Err OddLength
-Decodes text (Err NoMemory) = Unit {0}
+abbrev pub checked : Result (List ℕ) HexError → Result (Unit {0}) HexError
+checked r = bind r λ _. Ok tt
 
--- bytes that were shown are decoded again, unless there is no memory for them
-abbrev pub Decodes-shown : List ℕ → Result (Vec ℕ Global) HexError → Type 0
-Decodes-shown text (Ok bytes) = (l : List ℕ) → ((i : ℕ) → getD l i 0 < 256) → text ≡ shown-bytes l → vec-items bytes ≡ l
-Decodes-shown text (Err e) = (l : List ℕ) → ((i : ℕ) → getD l i 0 < 256) → text ≡ shown-bytes l → e ≡ NoMemory
+-- the answer for a buffer of that length
+abbrev pub decoding : ℕ → List ℕ → Result (List ℕ) HexError
+decoding room text = cond (ltb room (length text / 2)) (Err SmallBuffer) (bytes-at 0 text)
+
+-- what is left in the buffer: the bytes at the start, later ones as they were
+abbrev pub after : Result (List ℕ) HexError → List ℕ → List ℕ
+after (Ok bytes) out = bytes ++ drop (length bytes) out
+after (Err e) out = out
+
+-- and what is answered
+abbrev pub size : Result (List ℕ) HexError → Result ℕ HexError
+size (Ok bytes) = Ok (length bytes)
+size (Err e) = Err e
+
+-- the first n bytes of the buffer are the text's
+abbrev pub Decoded : List ℕ → List ℕ → Result ℕ HexError → List ℕ → Type 0
+Decoded text out (Ok n) out′ = (n ≤ length out) × (decoding (length out) text ≡ Ok (take n out′))
+Decoded text out (Err e) out′ = decoding (length out) text ≡ Err e
+
+-- bytes that were shown are decoded again, where there is room for them
+abbrev pub Decodes-shown : List ℕ → List ℕ → Result ℕ HexError → List ℕ → Type 0
+Decodes-shown text out r out′ =
+    (l : List ℕ) → ((i : ℕ) → getD l i 0 < 256) → text ≡ shown-bytes l → length l ≤ length out
+    → (r ≡ Ok (length l)) × (take (length l) out′ ≡ l)

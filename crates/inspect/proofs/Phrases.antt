@@ -1,5 +1,5 @@
 -- What is shown, as the code prints it piece by piece.
-use mathlib.Core.Path.{_≡_, sym}
+use mathlib.Core.Path.{_≡_, refl, sym, ap}
 use mathlib.Core.Bool.{Bool, true, _&&_}
 use mathlib.Core.List.{List, [], _∷_, _++_, append-assoc}
 use Prim.Native.Nat.{ℕ, suc, _+_, _/_, _<_, _≤_}
@@ -35,7 +35,7 @@ use Rattle.update.specs.Refusals.{number-of, place-of, cause-of}
 use Rattle.inspect.specs.declared.report.Report.{Report}
 use Rattle.inspect.specs.declared.report.Report.the-variants.{Read, Refused, NotHex}
 use Rattle.inspect.specs.declared.report.Tally.{Tally}
-use Rattle.inspect.specs.Reports.{report-shown, tally-shown}
+use Rattle.inspect.specs.Reports.{report-shown, line-shown, Reports, Reports-line, tally-shown}
 use Rattle.inspect.specs.Shown.{printable, text-in, address-shown, value-shown, predecessor-lines, parts-shown}
 
 pub address-phrase : (a : Address) → codes "\n  table " ++ (decimal (a .table) ++ (codes ", row " ++ (decimal (a .row) ++ (codes ", column " ++ decimal (a .column))))) ≡ address-shown (Some a)
@@ -82,3 +82,17 @@ refused-phrase r e number place h n p = rw (h, n, p) (simp append-assoc)
 
 pub not-hex-phrase : (r : Report) (e : HexError) → r ≡ NotHex e → codes "not hexadecimal: " ++ fault-shown e ≡ report-shown r
 not-hex-phrase r e h = rw h
+
+-- ---- lines
+
+pub reports-text : (d : Result (List ℕ) HexError) (t t′ : List ℕ) (r : Report) → d ≡ Ok t → t ≡ t′ → Reports t′ r → Reports-line d r
+reports-text d t t′ r e same h = rw (e, same) h
+
+pub reports-fault : (d : Result (List ℕ) HexError) (e : HexError) → d ≡ Err e → Reports-line d (NotHex e)
+reports-fault d e h = rw h refl
+
+pub line-phrase : (d : Result (List ℕ) HexError) (r : Report) → Reports-line d r → report-shown r ≡ line-shown d
+line-phrase (Ok t) (Read n p) h = rw (h .0, h .1)
+line-phrase (Ok t) (Refused e) h = rw h
+line-phrase (Ok t) (NotHex e) h = absurd h
+line-phrase (Err e) r h = ap report-shown h

@@ -7,6 +7,7 @@ use lib.ListN.{length}
 use Rattle.std.specs.Written.{decimal}
 use Rattle.std.specs.declared.result.Result.{Result}
 use Rattle.std.specs.declared.result.Result.the-variants.{Ok, Err}
+use Rattle.hex.specs.declared.decode.HexError.{HexError}
 use Rattle.hex.specs.Decoding.{fault-shown}
 use Rattle.update.specs.declared.refusal.Refusal.{Refusal}
 use Rattle.update.specs.Contents.{Contents, contents}
@@ -34,23 +35,24 @@ Reports t (Read n parts) = (n ≡ length t) × (reads t ≡ Ok (contents parts))
 Reports t (Refused e) = reads t ≡ Err e
 Reports t (NotHex e) = ⊥
 
+-- the report of a line is that of the bytes that it spells, or its fault
+abbrev pub Reports-line : Result (List ℕ) HexError → Report → Type 0
+Reports-line (Ok t) r = Reports t r
+Reports-line (Err e) r = r ≡ NotHex e
+
+-- what is shown of a line, from what it spells
+abbrev pub line-shown : Result (List ℕ) HexError → List ℕ
+line-shown (Ok t) = answer-shown (length t) (reads t)
+line-shown (Err e) = codes "not hexadecimal: " ++ fault-shown e
+
 -- one more, as far as the counter goes
 abbrev pub more : ℕ → ℕ
 more n = min (n + 1) 18446744073709551615
 
-abbrev pub one-read : Tally → Tally
-one-read t = record { read = more (t .read); refused = t .refused; «not_hex» = t .«not_hex» }
-
-abbrev pub one-refused : Tally → Tally
-one-refused t = record { read = t .read; refused = more (t .refused); «not_hex» = t .«not_hex» }
-
-abbrev pub one-not-hex : Tally → Tally
-one-not-hex t = record { read = t .read; refused = t .refused; «not_hex» = more (t .«not_hex») }
-
 abbrev pub tallied : Report → Tally → Tally
-tallied (Read n parts) t = one-read t
-tallied (Refused e) t = one-refused t
-tallied (NotHex e) t = one-not-hex t
+tallied (Read n parts) t = record { read = more (t .read); refused = t .refused; «not_hex» = t .«not_hex» }
+tallied (Refused e) t = record { read = t .read; refused = more (t .refused); «not_hex» = t .«not_hex» }
+tallied (NotHex e) t = record { read = t .read; refused = t .refused; «not_hex» = more (t .«not_hex») }
 
 abbrev pub tally-shown : Tally → List ℕ
 tally-shown t = decimal (t .read) ++ codes " read, " ++ decimal (t .refused) ++ codes " refused, " ++ decimal (t .«not_hex») ++ codes " not hexadecimal"

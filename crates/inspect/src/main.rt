@@ -1,9 +1,9 @@
 // Reads update texts in hexadecimal, one to a line, and shows what each says or why it is refused.
 mod fields;
-mod line;
 mod report;
 
-use crate::line::show_line;
+use crate::report::Report;
+use crate::report::ReportDisplay;
 use crate::report::Tally;
 use crate::report::TallyDisplay;
 use std::error::AnyError;
@@ -17,8 +17,10 @@ fn run(rt: &LibcRuntime) -> Result<(), AnyError> {
     for line in BufReader::new(rt.stdin()).split(heap, b'\n') {
         let line = line?;
         number = number.saturating_add(1);
-        let shown = show_line(heap, line.as_slice(), &mut tally)?;
-        println!(rt, "{number}: {shown}")?;
+        let mut room = vec![in heap; 0u8; line.len() / 2]?;
+        let report = Report::of_line(line.as_slice(), room.as_mut_slice());
+        tally.count(report);
+        println!(rt, "{number}: {report}")?;
     }
     println!(rt, "{tally}")?;
     Ok(())

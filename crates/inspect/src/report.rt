@@ -1,10 +1,13 @@
 // What is shown of a line of input, and how many lines came out which way.
 ghost use mathlib.Core.Path.{_≡_};
 ghost use Rattle.std.specs.declared.option.Option.the-variants.{Some};
-ghost use Rattle.inspect.specs.Reports.{report-shown, Reports, tallied, tally-shown};
+ghost use lib.ListN.{length};
+ghost use Rattle.hex.specs.Decoding.{decoding};
+ghost use Rattle.inspect.specs.Reports.{report-shown, line-shown, Reports, Reports-line, tallied, tally-shown};
 use crate::fields::put_parts;
 use hex::decode::HexError;
 use hex::decode::HexErrorDisplay;
+use hex::decode::decode;
 use std::fmt;
 use update::parts::Parts;
 use update::refusal::Refusal;
@@ -19,6 +22,7 @@ pub enum Report<'a> {
 }
 
 impl<'a> Report<'a> {
+    // The report of a text.
     pub fn of(text: &'a [u8]) -> Report<'a>
         ensures { λ r. ⌜ Reports (now (text .entry)) r ⌝ }
     {
@@ -28,10 +32,15 @@ impl<'a> Report<'a> {
         }
     }
 
-    pub fn of_fault(error: HexError) -> Report<'a>
-        ensures { λ r. ⌜ r ≡ Report.NotHex error ⌝ }
+    // The report of a line, whose bytes are written into the room lent for them.
+    pub fn of_line(line: &[u8], room: &'a mut [u8]) -> Report<'a>
+        ensures reports { λ r. ⌜ Reports-line (decoding (length (now (room .entry))) (now (line .entry))) r ⌝ }
+        ensures shows { λ r. ⌜ report-shown r ≡ line-shown (decoding (length (now (room .entry))) (now (line .entry))) ⌝ }
     {
-        Report::NotHex(error)
+        match decode(line, room) {
+            Ok(count) => Report::of(&room[0..count]),
+            Err(fault) => Report::NotHex(fault),
+        }
     }
 }
 
