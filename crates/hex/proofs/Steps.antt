@@ -1,6 +1,6 @@
 -- One turn of the decoder, and its ends.
 use mathlib.Core.Path.{_≡_, refl, sym, ap, _∙_}
-use mathlib.Core.Bool.{Bool, true, false, cond}
+use mathlib.Core.Bool.{true}
 use mathlib.Core.List.{List, [], _∷_, _++_, append-nil, append-assoc}
 use Prim.Native.Nat.{ℕ, suc, _+_, _*_, _/_, _%_, _<_, _≤_}
 use native.Mathlib.Nat.{add-assoc}
@@ -15,7 +15,10 @@ use Rattle.std.specs.declared.result.Result.{Result}
 use Rattle.std.specs.declared.result.Result.the-variants.{Ok, Err}
 use Rattle.hex.specs.declared.decode.HexError.{HexError}
 use Rattle.hex.specs.declared.decode.HexError.the-variants.{SmallBuffer, OddLength}
-use Rattle.hex.specs.Decoding.{digit-at, bind, byte-of, bytes-at, checked, decoding, after, size, Decoded, Decodes-shown}
+use Rattle.hex.specs.Decoding.{digit-at, byte-of, bytes-at, checked, decoding, Decoded, Decodes-shown}
+use Rattle.outcome.proofs.Steps.{no-ok, ok-same, bind-then, stay}
+use Rattle.outcome.specs.Outcomes.{bind}
+use Rattle.outcome.specs.Buffers.{after, size}
 use Rattle.hex.specs.Showing.{digit-of, shown-bytes}
 
 -- the bytes found so far, and those to come
@@ -62,16 +65,6 @@ module _ (text done : List ℕ) (i : ℕ) (before : bytes-at 0 text ≡ behind d
 
 -- ---- a text without faults has two digits for each byte
 
-no-ok : {A : Type 0} (e : HexError) (x : A) → _≡_ {A = Result A HexError} (Err e) (Ok x) → ⊥
-no-ok e x h = let z : _≡_ {A = ℕ} 0 1 = cc in omega arith
-
-bind-then : {A B G : Type 0} (r : Result A HexError) (f : A → Result B HexError) (x : B) → bind r f ≡ Ok x → ((y : A) → r ≡ Ok y → f y ≡ Ok x → G) → G
-bind-then (Ok y) f x h k = k y refl h
-bind-then (Err e) f x h k = absurd (no-ok e x h)
-
-ok-same : {A : Type 0} (x y : A) → _≡_ {A = Result A HexError} (Ok x) (Ok y) → x ≡ y
-ok-same x y h = cc
-
 bytes-even : (l bytes : List ℕ) (place : ℕ) → bytes-at place l ≡ Ok bytes → length l ≡ 2 * length bytes
 bytes-even [] bytes place h = rw (sym (ok-same [] bytes h))
 bytes-even (c ∷ []) bytes place h = bind-then (digit-at place c) _ bytes h λ d hd h1. absurd (no-ok _ _ h1)
@@ -90,10 +83,6 @@ pub record Spelt (text : List ℕ) : Type 0 where
 pub spelt-by : (text : List ℕ) (r : Result (List ℕ) HexError) → bytes-at 0 text ≡ r → isOk r ≡ true → Spelt text
 spelt-by text (Ok bytes) e ok = record { bytes = bytes; spelt = e; even = bytes-even text bytes 0 e }
 spelt-by text (Err x) e ok = absurd (let z : _≡_ {A = ℕ} 0 1 = cc in omega arith)
-
-cond-ok : {A : Type 0} (b : Bool) (e : HexError) (r : Result A HexError) (x : A) → cond b (Err e) r ≡ Ok x → (b ≡ false) × (r ≡ Ok x)
-cond-ok true e r x h = absurd (no-ok e x h)
-cond-ok false e r x h = (refl, h)
 
 -- what a check says of the text
 pub sound : (r : Result (List ℕ) HexError) → Ok tt ≡ checked r → isOk r ≡ true
@@ -133,7 +122,7 @@ decodes-shown text out l h e room =
 
 decoded-so : (text out : List ℕ) (d : Result (List ℕ) HexError) → decoding (length out) text ≡ d → Decoded text out (size d) (after d out)
 decoded-so text out (Ok bytes) e =
-    let room = cond-ok (ltb (length out) (length text / 2)) SmallBuffer (bytes-at 0 text) bytes e in
+    let room = stay (ltb (length out) (length text / 2)) (bytes-at 0 text) SmallBuffer bytes e in
     let fits = ltb-false (length out) (length text / 2) (room .0) in
     let even = bytes-even text bytes 0 (room .1) in
     (omega arith, rw (take-at bytes (drop (length bytes) out) (length bytes) refl) e)

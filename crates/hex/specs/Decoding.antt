@@ -5,13 +5,14 @@ use mathlib.Core.List.{List, [], _∷_, _++_}
 use Prim.Native.Nat.{ℕ, _+_, _-_, _*_, _/_, _<_, _≤_}
 use lib.Chars.{codes}
 use lib.Dec.{leb, ltb}
-use lib.ListN.{length, getD, take, drop}
+use lib.ListN.{length, getD, take}
 use Rattle.std.specs.Written.{decimal}
 use Rattle.std.specs.declared.result.Result.{Result}
 use Rattle.std.specs.declared.result.Result.the-variants.{Ok, Err}
 use Rattle.hex.specs.declared.decode.HexError.{HexError}
 use Rattle.hex.specs.declared.decode.HexError.the-variants.{SmallBuffer, NotADigit, OddLength}
 use Rattle.hex.specs.Showing.{shown-bytes}
+use Rattle.outcome.specs.Outcomes.{bind}
 
 -- a fault in words
 abbrev pub fault-shown : HexError → List ℕ
@@ -26,10 +27,6 @@ digit-at place c =
     (cond (leb 97 c && leb c 102) (Ok (c - 97 + 10))
     (cond (leb 65 c && leb c 70) (Ok (c - 65 + 10))
     (Err (NotADigit place))))
-
-abbrev pub bind : {A B : Type 0} → Result A HexError → (A → Result B HexError) → Result B HexError
-bind (Ok x) f = f x
-bind (Err e) f = Err e
 
 -- the byte of two digits
 abbrev pub byte-of : ℕ → ℕ → ℕ → Result ℕ HexError
@@ -53,16 +50,6 @@ checked r = bind r λ _. Ok tt
 -- the answer for a buffer of that length
 abbrev pub decoding : ℕ → List ℕ → Result (List ℕ) HexError
 decoding room text = cond (ltb room (length text / 2)) (Err SmallBuffer) (bytes-at 0 text)
-
--- what is left in the buffer: the bytes at the start, later ones as they were
-abbrev pub after : Result (List ℕ) HexError → List ℕ → List ℕ
-after (Ok bytes) out = bytes ++ drop (length bytes) out
-after (Err e) out = out
-
--- and what is answered
-abbrev pub size : Result (List ℕ) HexError → Result ℕ HexError
-size (Ok bytes) = Ok (length bytes)
-size (Err e) = Err e
 
 -- the first n bytes of the buffer are the text's
 abbrev pub Decoded : List ℕ → List ℕ → Result ℕ HexError → List ℕ → Type 0

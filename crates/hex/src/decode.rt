@@ -5,7 +5,8 @@ ghost use Prim.Native.Nat.{_+_, _/_, _<_, _≤_};
 ghost use lib.ListN.{length, getD};
 ghost use Rattle.std.specs.Results.{isOk};
 ghost use Rattle.std.specs.declared.option.Option.the-variants.{Some};
-ghost use Rattle.hex.specs.Decoding.{fault-shown, digit-at, byte-of, bytes-at, checked, decoding, after, size, Decoded, Decodes-shown};
+ghost use Rattle.hex.specs.Decoding.{fault-shown, digit-at, byte-of, bytes-at, checked, decoding, Decoded, Decodes-shown};
+ghost use Rattle.outcome.specs.Buffers.{after, size};
 use std::fmt;
 
 #[derive(Clone, Copy, Debug)]

@@ -19,7 +19,7 @@ use Rattle.std.specs.declared.result.Result.the-variants.{Ok, Err}
 use Rattle.update.specs.declared.refusal.Refusal.the-variants.{BadPredecessors}
 use Rattle.update.specs.Order.{bytes-rank, below, digests}
 use Rattle.update.specs.Reading.{cut-at, ascending-at}
-use Rattle.update.proofs.Steps.{ok-same, bind-then, pass, stay}
+use Rattle.outcome.proofs.Steps.{ok-same, bind-then, pass, stay}
 
 -- the first of the digests, and the others
 pub record Opened (total n : ℕ) (before l : List ℕ) : Type 0 where

@@ -22,7 +22,7 @@ use Rattle.update.specs.Reading.{Read, cut-at, count-at, author-at, address-at
 use Rattle.update.specs.Writing.{every, good-predecessors, good-value, good-seal, writes}
 use Rattle.update.proofs.Ascending.{ascending-same}
 use Rattle.update.proofs.Forming.{Tested, no-faults}
-use Rattle.update.proofs.Steps.{no-ok, ok-same, bind-then, pass, stay}
+use Rattle.outcome.proofs.Steps.{no-ok, ok-same, bind-then, pass, stay}
 
 -- ---- what each field held stands at the front
 

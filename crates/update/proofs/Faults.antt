@@ -14,7 +14,8 @@ use Rattle.update.specs.declared.refusal.Refusal.the-variants.{BadPredecessors
 use Rattle.update.specs.Contents.{Contents}
 use Rattle.update.specs.Order.{below}
 use Rattle.update.specs.Reading.{Read, cut-at, count-at, author-at, address-at, ascending-at, predecessors-at, value-at, seal-at, optional, stands, map-allowed, end-at, fields-at, reads}
-use Rattle.update.specs.Refusals.{number-of, place-of, bind}
+use Rattle.update.specs.Refusals.{number-of, place-of}
+use Rattle.outcome.specs.Outcomes.{bind}
 use Rattle.update.specs.Writing.{every, good-predecessors, good-value, good-seal, faults}
 
 abbrev pub Fault : ℕ → Refusal → Type 0

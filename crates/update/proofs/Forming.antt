@@ -20,7 +20,7 @@ use Rattle.update.specs.Contents.{Contents}
 use Rattle.update.specs.Layout.{address-bytes, counted-bytes, plain-bytes, layout, Digests, Formed, Text-of}
 use Rattle.update.specs.Writing.{every, good-predecessors, good-value, good-seal, faults, writes}
 use Rattle.update.proofs.Ascending.{sorted-from-ascending, ascending-from-sorted, all-above-empty}
-use Rattle.update.proofs.Steps.{ok-same, bind-then, pass}
+use Rattle.outcome.proofs.Steps.{ok-same, bind-then, pass}
 
 pub is-ok : (r : Result (Unit {0}) Refusal) → isOk r ≡ true → r ≡ Ok tt
 is-ok (Ok x) h = refl

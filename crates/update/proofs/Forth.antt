@@ -22,7 +22,7 @@ use Rattle.update.specs.Writing.{every, good-predecessors, good-value, good-se
 use Rattle.update.proofs.Ascending.{ascending-same}
 use Rattle.update.proofs.Back.{glue}
 use Rattle.update.proofs.Forming.{is-ok, tested}
-use Rattle.update.proofs.Steps.{ok-same, bind-then}
+use Rattle.outcome.proofs.Steps.{ok-same, bind-then}
 
 -- ---- each field is read from the front of its bytes
 

@@ -2,7 +2,6 @@ pub mod Steps
 pub mod Faults
 pub mod Ascending
 pub mod Forming
-pub mod Placing
 pub mod Back
 pub mod Forth
 pub mod Texts

@@ -16,13 +16,13 @@ use Rattle.update.specs.Contents.{Contents, contents}
 use Rattle.update.specs.Laws.{Bytes, Only-text-of, Accepts-texts, Written, Unwritten}
 use Rattle.update.specs.Layout.{layout, Fitting, Text-of}
 use Rattle.update.specs.Reading.{reads}
-use Rattle.update.specs.Refusals.{Answers}
+use Rattle.outcome.specs.Outcomes.{Answers}
 use Rattle.update.specs.Writing.{faults, writes}
 use Rattle.update.proofs.Back.{read-then-written}
 use Rattle.update.proofs.Faults.{Fault, fault-of, reads-faults, parts-faults}
 use Rattle.update.proofs.Forming.{no-faults, tested-from-formed, text-of-written, written-of-text, text-length}
 use Rattle.update.proofs.Forth.{written-then-read}
-use Rattle.update.proofs.Steps.{no-ok, ok-same}
+use Rattle.outcome.proofs.Steps.{no-ok, ok-same}
 
 pub bytes-fit : (t : List ℕ) → ((i : ℕ) → Fits w8 (getD t i 0)) → Bytes t
 bytes-fit t b i = let k = b i in search needs

@@ -15,7 +15,7 @@ use Rattle.update.specs.declared.refusal.Refusal.{Refusal}
 use Rattle.update.specs.declared.refusal.Refusal.the-variants.{BadLength, BadMap, BadPredecessors, BadValueLength}
 use Rattle.update.specs.Contents.{Contents}
 use Rattle.update.specs.Order.{below}
-use Rattle.update.specs.Refusals.{bind}
+use Rattle.outcome.specs.Outcomes.{bind}
 
 -- a field at the front, and what follows it
 abbrev pub Read : Type 0 → Type 0

@@ -1,10 +1,7 @@
--- The refusals: their numbers and places, and how an answer of the code is held to one of a definition.
-use mathlib.Core.Path.{_≡_}
+-- The refusals: their numbers, places and causes.
 use mathlib.Core.List.{List}
 use Prim.Native.Nat.{ℕ}
 use lib.Chars.{codes}
-use Rattle.std.specs.declared.result.Result.{Result}
-use Rattle.std.specs.declared.result.Result.the-variants.{Ok, Err}
 use Rattle.update.specs.declared.refusal.Refusal.{Refusal}
 use Rattle.update.specs.declared.refusal.Refusal.the-variants.{BadLength, BadMap, BadPredecessors, BadValueLength, NotGenuine, PredecessorAbsent, NoRoom, QuotaReached, PendingFull, BadMessage, DigestNotHeld, SmallBuffer, TooManyHeads, BadSetUp, NotAnnounced, NoSuchPlace, BadSettings}
 
@@ -66,13 +63,3 @@ cause-of BadSetUp = codes "a table is smaller than the store's capacity, or the 
 cause-of NotAnnounced = codes "the message comes before an announcement"
 cause-of NoSuchPlace = codes "there is no text at this place"
 cause-of BadSettings = codes "there are too many keys or digests, or the quota is 0"
-
--- what follows, unless there is a refusal
-abbrev pub bind : {A B : Type 0} → Result A Refusal → (A → Result B Refusal) → Result B Refusal
-bind (Ok x) f = f x
-bind (Err e) f = Err e
-
--- the code's answer, seen without its borrows, is the definition's
-abbrev pub Answers : {A B : Type 0} → (A → B) → Result A Refusal → Result B Refusal → Type 0
-Answers see (Ok x) m = m ≡ Ok (see x)
-Answers see (Err e) m = m ≡ Err e

@@ -1,10 +1,9 @@
 -- The writer: parts to text, or the refusal of the first check that fails, in the reader's order and at place 0.
 use mathlib.Core.Bool.{Bool, true, cond, _&&_, _||_, not}
-use mathlib.Core.List.{List, [], _++_}
+use mathlib.Core.List.{List, []}
 use Prim.Native.Nat.{ℕ, _/_, _%_}
 use lib.Dec.{eqb, ltb, leb}
-use lib.ListN.{length, drop}
-use lib.Seq.{paste}
+use lib.ListN.{length}
 use Rattle.std.specs.Options.{isSome}
 use Rattle.std.specs.Results.{isOk}
 use Rattle.std.specs.declared.option.Option.{Option}
@@ -16,7 +15,7 @@ use Rattle.update.specs.declared.refusal.Refusal.the-variants.{BadMap, BadPred
 use Rattle.update.specs.Contents.{Contents}
 use Rattle.update.specs.Layout.{layout}
 use Rattle.update.specs.Reading.{ascending-at}
-use Rattle.update.specs.Refusals.{bind}
+use Rattle.outcome.specs.Outcomes.{bind}
 
 -- what a field is held to where it is there
 abbrev pub every : Option (List ℕ) → (List ℕ → Bool) → Bool
@@ -52,17 +51,3 @@ writes p = bind (faults p) (λ _. Ok (layout p))
 -- the answer for a buffer of that length
 abbrev pub writing : ℕ → Contents → Result (List ℕ) Refusal
 writing room p = cond (ltb room 363) (Err SmallBuffer) (writes p)
-
--- a part written into the buffer
-unfoldable pub placed : ℕ → List ℕ → List ℕ → List ℕ
-placed at part out = paste out at part (length part)
-
--- what a call that writes leaves in the buffer: its text at the start, later bytes as they were
-abbrev pub after : Result (List ℕ) Refusal → List ℕ → List ℕ
-after (Ok t) out = t ++ drop (length t) out
-after (Err e) out = out
-
--- and what it answers
-abbrev pub size : Result (List ℕ) Refusal → Result ℕ Refusal
-size (Ok t) = Ok (length t)
-size (Err e) = Err e

@@ -9,7 +9,8 @@ use Rattle.std.specs.declared.result.Result.{Result}
 use Rattle.std.specs.declared.result.Result.the-variants.{Ok, Err}
 use Rattle.hex.specs.declared.decode.HexError.{HexError}
 use Rattle.hex.specs.declared.decode.HexError.the-variants.{SmallBuffer}
-use Rattle.hex.specs.Decoding.{bytes-at, decoding, after, size}
+use Rattle.hex.specs.Decoding.{bytes-at, decoding}
+use Rattle.outcome.specs.Buffers.{after, size}
 use Rattle.hex.proofs.Steps.{sound, unsound, spelt-by, decoded-by, decodes-shown-by}
 use Rattle.hex.proofs.decode.decode.Needs as need
 

@@ -1,7 +1,7 @@
 use mathlib.Core.Path.{refl}
 use native.Mathlib.Omega.{arith}
 use Rattle.std.proofs.shelf.Parts.{putMid-paste}
-use Rattle.update.specs.Writing.{placed}
+use Rattle.outcome.specs.Buffers.{placed}
 use Rattle.update.proofs.writer.put.Needs as need
 
 pub returns : need.returns

@@ -2,7 +2,7 @@ use mathlib.Core.Path.{ap}
 use native.Mathlib.Omega.{arith}
 use lib.ListN.{length}
 use Rattle.update.specs.Layout.{address-bytes}
-use Rattle.update.proofs.Placing.{placed-none}
+use Rattle.outcome.proofs.Placing.{placed-none}
 use Rattle.update.proofs.writer.put_address.Needs as need
 
 pub returns-in-rest : need.returns-in-rest

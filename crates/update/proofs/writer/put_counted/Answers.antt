@@ -3,8 +3,8 @@ use native.Mathlib.Omega.{arith}
 use lib.ListN.{length}
 use Rattle.update.specs.Contents.{borrowed}
 use Rattle.update.specs.Layout.{counted-bytes}
-use Rattle.update.specs.Writing.{placed}
-use Rattle.update.proofs.Placing.{placed-none, placed-more}
+use Rattle.outcome.specs.Buffers.{placed}
+use Rattle.outcome.proofs.Placing.{placed-none, placed-more}
 use Rattle.update.proofs.writer.put_counted.Needs as need
 
 pub returns-in-rest : need.returns-in-rest

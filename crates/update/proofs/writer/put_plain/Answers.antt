@@ -3,7 +3,7 @@ use native.Mathlib.Omega.{arith}
 use lib.ListN.{length}
 use Rattle.update.specs.Contents.{borrowed}
 use Rattle.update.specs.Layout.{plain-bytes}
-use Rattle.update.proofs.Placing.{placed-none}
+use Rattle.outcome.proofs.Placing.{placed-none}
 use Rattle.update.proofs.writer.put_plain.Needs as need
 
 pub returns-in-rest : need.returns-in-rest

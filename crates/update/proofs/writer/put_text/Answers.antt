@@ -5,9 +5,9 @@ use native.Mathlib.Omega.{arith}
 use lib.ListN.{length}
 use Rattle.update.specs.Contents.{contents}
 use Rattle.update.specs.Layout.{map-of}
-use Rattle.update.specs.Writing.{placed}
+use Rattle.outcome.specs.Buffers.{placed}
 use Rattle.update.proofs.Forming.{tested, formed, lengths}
-use Rattle.update.proofs.Placing.{Front, front-more}
+use Rattle.outcome.proofs.Placing.{Front, front-more}
 use Rattle.update.proofs.writer.put_text.Needs as need
 
 pub put-plain-requires : need.put-plain-requires

@@ -5,7 +5,7 @@ use Rattle.std.specs.declared.result.Result.the-variants.{Err}
 use Rattle.update.specs.declared.refusal.Refusal.the-variants.{BadLength, BadMap}
 use Rattle.update.specs.Contents.{contents}
 use Rattle.update.specs.Reading.{reads}
-use Rattle.update.proofs.Steps.{answers-as}
+use Rattle.outcome.proofs.Steps.{answers-as}
 use Rattle.update.proofs.Texts.{bytes-fit, accepts-texts}
 use Rattle.update.proofs.parts.Parts.read.Needs as need
 

@@ -5,10 +5,12 @@ use borrow.Author.Needs.{needs}
 use Rattle.std.proofs.shelf.Results.{err-from-errBy}
 use Rattle.std.proofs.shelf.Tests.{le-ltb}
 use Rattle.std.specs.declared.result.Result.the-variants.{Ok}
+use Rattle.update.specs.declared.refusal.Refusal.{Refusal}
 use Rattle.update.specs.Contents.{contents}
 use Rattle.update.specs.Layout.{layout, Fitting}
-use Rattle.update.specs.Writing.{faults, after}
-use Rattle.update.proofs.Placing.{placed-front}
+use Rattle.update.specs.Writing.{faults}
+use Rattle.outcome.specs.Buffers.{after}
+use Rattle.outcome.proofs.Placing.{placed-front}
 use Rattle.update.proofs.Texts.{refused, written}
 use Rattle.update.proofs.parts.Parts.write.Needs as need
 
@@ -33,7 +35,7 @@ returns c =
     let fits : Fitting p = record { author = search needs; row = search needs } in
     let small = le-ltb (length out) 363 (c .if-out-lt-MAX-TEXT-LEN .left) in
     let fault : faults p ≡ Ok tt = sym (c .in-Continue-check-parts .ensures tt) in
-    let left : c .put-text .last .out ≡ after (Ok (layout p)) out = c .put-text .ensures .bytes ∙ placed-front (layout p) out in
+    let left : c .put-text .last .out ≡ after {E = Refusal} (Ok (layout p)) out = c .put-text .ensures .bytes ∙ placed-front (layout p) out in
     record {
       answer = simp (small, fault, c .put-text .ensures .end);
       bytes = left ∙ simp (small, fault);

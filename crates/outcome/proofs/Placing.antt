@@ -7,7 +7,7 @@ use native.Mathlib.Omega.{arith}
 use lib.ListN.{length, drop, length-append}
 use lib.Seq.{paste}
 use Rattle.std.proofs.shelf.Edits.{paste-none, paste-paste, paste-all}
-use Rattle.update.specs.Writing.{placed}
+use Rattle.outcome.specs.Buffers.{placed}
 
 pub placed-none : (part : List ℕ) (at : ℕ) (out : List ℕ) → part ≡ [] → out ≡ placed at part out
 unfolding placed
