@@ -18,18 +18,6 @@ pub enum HexError {
     OddLength,
 }
 
-pub impl fmt::Display for HexError as HexErrorDisplay {
-    ghost shown = { λ e. Some (fault-shown e) };
-
-    fn fmt<W: fmt::Write>(&self, f: &mut fmt::Formatter<W>) -> fmt::Result {
-        match *self {
-            HexError::SmallBuffer => f.write_str("a small buffer"),
-            HexError::NotADigit(place) => write!(f, "no digit at {place}"),
-            HexError::OddLength => f.write_str("an odd number of digits"),
-        }
-    }
-}
-
 fn digit(c: u8, place: usize) -> Result<u8, HexError>
     ensures { λ r. ⌜ r ≡ digit-at place c ⌝ }
 {
@@ -91,4 +79,16 @@ pub fn decode(hex: &[u8], out: &mut [u8]) -> Result<usize, HexError>
     check(hex)?;
     fill(hex, out);
     Ok(count)
+}
+
+pub impl fmt::Display for HexError as HexErrorDisplay {
+    ghost shown = { λ e. Some (fault-shown e) };
+
+    fn fmt<W: fmt::Write>(&self, f: &mut fmt::Formatter<W>) -> fmt::Result {
+        match *self {
+            HexError::SmallBuffer => f.write_str("a small buffer"),
+            HexError::NotADigit(place) => write!(f, "no digit at {place}"),
+            HexError::OddLength => f.write_str("an odd number of digits"),
+        }
+    }
 }

@@ -1,6 +1,6 @@
 -- Digests that the reader finds ascending, and digests in order.
 use mathlib.Core.Path.{_≡_, refl, sym, ap, subst, _∙_}
-use mathlib.Core.Bool.{true, cond}
+use mathlib.Core.Bool.{true, false, cond}
 use mathlib.Core.List.{List, [], _∷_}
 use Prim.Native.Nat.{ℕ, zero, suc, _+_, _-_, _*_, _≤_}
 use native.Mathlib.Omega.{arith}
@@ -16,10 +16,21 @@ use Rattle.std.specs.Sorted.{Sorted}
 use Rattle.std.specs.declared.cmp.Ordering.{Ordering}
 use Rattle.std.specs.declared.cmp.Ordering.the-variants.{Less, Equal, Greater}
 use Rattle.std.specs.declared.result.Result.the-variants.{Ok, Err}
+use Rattle.update.specs.declared.refusal.Refusal.{Refusal}
 use Rattle.update.specs.declared.refusal.Refusal.the-variants.{BadPredecessors}
 use Rattle.update.specs.Order.{bytes-rank, below, digests}
 use Rattle.update.specs.Reading.{cut-at, ascending-at}
 use Rattle.outcome.proofs.Steps.{ok-same, bind-then, pass, stay}
+
+-- one digest of those that are left
+pub ascending-more : (total : ℕ) (before l : List ℕ) (n m : ℕ) (p : List ℕ × List ℕ) → n ≡ suc m → cut-at total 32 l ≡ Ok p → below before (p .0) ≡ true → ascending-at total before n l ≡ ascending-at total (p .0) m (p .1)
+ascending-more total before l n m p e h b = simp (e, h, b)
+
+pub ascending-cut : (total : ℕ) (before l : List ℕ) (n m : ℕ) (f : Refusal) → n ≡ suc m → cut-at total 32 l ≡ Err f → ascending-at total before n l ≡ Err f
+ascending-cut total before l n m f e h = simp (e, h)
+
+pub ascending-not : (total : ℕ) (before l : List ℕ) (n m : ℕ) (p : List ℕ × List ℕ) → n ≡ suc m → cut-at total 32 l ≡ Ok p → below before (p .0) ≡ false → ascending-at total before n l ≡ Err (BadPredecessors (total - length l))
+ascending-not total before l n m p e h b = simp (e, h, b)
 
 -- the first of the digests, and the others
 pub record Opened (total n : ℕ) (before l : List ℕ) : Type 0 where

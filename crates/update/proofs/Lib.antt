@@ -1,4 +1,3 @@
-pub mod Steps
 pub mod Faults
 pub mod Ascending
 pub mod Forming

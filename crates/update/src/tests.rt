@@ -78,34 +78,26 @@ fn writes_the_longest_text() -> Result<(), Fail> {
     check_eq(told(Parts::read(&out[0..364])), (1, 363))
 }
 
+// The writer refuses these parts with that number, at place 0.
+fn refused(parts: Parts, number: u8, out: &mut [u8]) -> Result<(), Fail> {
+    check_eq(told(parts.write(out)), (number, 0))
+}
+
 #[test]
 fn refuses_parts_past_the_limits() -> Result<(), Fail> {
     let digests = digests();
     let (value, seal) = ([0x41u8; 65], [0xabu8; 33]);
-    let mut out = [0u8; 363];
-    check_eq(
-        told(full(&digests[0..288], &value[0..64], &seal[0..32]).write(&mut out)),
-        (3, 0),
-    )?;
-    check_eq(
-        told(full(&digests[0..255], &value[0..64], &seal[0..32]).write(&mut out)),
-        (3, 0),
-    )?;
-    check_eq(
-        told(full(&seal[0..32], &value[0..65], &seal[0..32]).write(&mut out)),
-        (4, 0),
-    )?;
-    check_eq(
-        told(full(&seal[0..32], &value[0..0], &seal[0..32]).write(&mut out)),
-        (4, 0),
-    )?;
-    check_eq(
-        told(full(&seal[0..32], &value[0..64], &seal[0..33]).write(&mut out)),
-        (2, 0),
-    )?;
-    check_eq(
-        told(full(&seal[0..32], &value[0..64], &seal[0..32]).write(&mut out[0..362])),
-        (12, 0),
-    )?;
-    check(out == [0u8; 363])
+    let (d, v, s) = (&digests[0..256], &value[0..64], &seal[0..32]);
+    let (mut out, mut small) = ([0u8; 363], [0u8; 362]);
+    refused(full(&digests[0..288], v, s), 3, &mut out)?;
+    refused(full(&digests[0..255], v, s), 3, &mut out)?;
+    refused(full(v, v, s), 3, &mut out)?;
+    refused(full(d, &value[0..65], s), 4, &mut out)?;
+    refused(full(d, &value[0..0], s), 4, &mut out)?;
+    refused(full(d, v, &seal[0..33]), 2, &mut out)?;
+    refused(full(d, v, s), 12, &mut small)?;
+    let mut nowhere = full(d, v, s);
+    nowhere.address = None;
+    refused(nowhere, 2, &mut out)?;
+    check(out == [0u8; 363] && small == [0u8; 362])
 }

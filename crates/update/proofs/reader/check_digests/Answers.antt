@@ -2,7 +2,7 @@ use mathlib.Core.Path.{_≡_, sym, _∙_}
 use Prim.Native.Nat.{suc, _-_, _+_}
 use native.Mathlib.Omega.{arith}
 use Rattle.std.proofs.shelf.Results.{err-from-errBy}
-use Rattle.update.proofs.Steps.{ascending-more, ascending-cut, ascending-not}
+use Rattle.update.proofs.Ascending.{ascending-more, ascending-cut, ascending-not}
 use Rattle.update.proofs.reader.check_digests.Needs as need
 
 pub returns-in-Break-digest : need.returns-in-Break-digest
