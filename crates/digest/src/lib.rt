@@ -1,4 +1,6 @@
 // Digests and seals: SHA-256 and HMAC-SHA-256.
+#![tactic(auto)]
+
 ghost use Rattle.std.specs.Prelude.{◌≡◌, length};
 
 mod compression;

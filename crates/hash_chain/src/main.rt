@@ -1,5 +1,7 @@
 // Hashes 64 MiB in messages of 363 bytes, each beginning with the digest of the one before it, and prints
 // the last digest.
+#![tactic(auto)]
+
 ghost use Rattle.std.specs.Prelude.{◌≡◌, ◌++◌};
 ghost use Rattle.hash_chain.specs.Chain.{zeros, chained};
 

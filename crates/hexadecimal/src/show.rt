@@ -23,7 +23,7 @@ fn digit_char(n: u8) -> char
 }
 
 fn put_byte<W: fmt::Write>(f: &mut fmt::Formatter<W>, b: u8) -> fmt::Result
-    ensures { WritesOnOk write_str_gives f.old result (byte_shown b) f.new }
+    ensures { WritesOnOk W.write_str_gives f.old result (byte_shown b) f.new }
 {
     f.write_char(digit_char(b / 16))?;
     f.write_char(digit_char(b % 16))

@@ -1,4 +1,6 @@
 // Reads update texts in hexadecimal, one to a line, and shows what each says or why it is refused.
+#![tactic(auto)]
+
 mod fields;
 mod report;
 

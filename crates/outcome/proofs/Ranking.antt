@@ -7,9 +7,9 @@ use Rattle.outcome.specs.Order.{bytes_rank}
 use Rattle.std.specs.Cmp.Lexicographic.{lists_total}
 
 -- one byte of each, where o is what their comparison answered
-turn : (a b : List ℕ) (i : ℕ) (o : Ordering) → i < length a → i < length b → MatchOrdering o (get_or a i 0 < get_or b i 0) (get_or a i 0 ≡ get_or b i 0) (get_or b i 0 < get_or a i 0)
+turn : (a b : List ℕ) (i : ℕ) (o : Ordering) → i < length a → i < length b → o ≡ nat_cmp (get_or a i 0) (get_or b i 0)
     → bytes_rank (drop i a) (drop i b) ≡ ordering_then o (bytes_rank (drop (i + 1) a) (drop (i + 1) b))
-turn a b i o h k says = rw (drop_more a i 0 h, drop_more b i 0 k, (nat_cmp_total.says (get_or a i 0) (get_or b i 0) o says))
+turn a b i o h k says = rw (drop_more a i 0 h, drop_more b i 0 k, says)
 
 first_decides : (o p : Ordering) → is_ne o ≡ true → ordering_then o p ≡ o
 first_decides Less p e = refl
@@ -21,11 +21,11 @@ second_decides Less p e = absurd (true≢false e)
 second_decides Equal p e = refl
 second_decides Greater p e = absurd (true≢false e)
 
-pub decided : (a b : List ℕ) (i : ℕ) (o : Ordering) → i < length a → i < length b → MatchOrdering o (get_or a i 0 < get_or b i 0) (get_or a i 0 ≡ get_or b i 0) (get_or b i 0 < get_or a i 0)
+pub decided : (a b : List ℕ) (i : ℕ) (o : Ordering) → i < length a → i < length b → o ≡ nat_cmp (get_or a i 0) (get_or b i 0)
     → is_ne o ≡ true → bytes_rank (drop i a) (drop i b) ≡ o
 decided a b i o h k says e = turn a b i o h k says ∙ first_decides o _ e
 
-pub undecided : (a b : List ℕ) (i : ℕ) (o : Ordering) → i < length a → i < length b → MatchOrdering o (get_or a i 0 < get_or b i 0) (get_or a i 0 ≡ get_or b i 0) (get_or b i 0 < get_or a i 0)
+pub undecided : (a b : List ℕ) (i : ℕ) (o : Ordering) → i < length a → i < length b → o ≡ nat_cmp (get_or a i 0) (get_or b i 0)
     → is_ne o ≡ false → bytes_rank (drop i a) (drop i b) ≡ bytes_rank (drop (i + 1) a) (drop (i + 1) b)
 undecided a b i o h k says e = turn a b i o h k says ∙ second_decides o _ e
 

@@ -1,4 +1,6 @@
 // Update texts: what an office enters or corrects, read from bytes and written to them.
+#![tactic(auto)]
+
 pub mod examples;
 mod layout;
 pub mod parts;

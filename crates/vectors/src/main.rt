@@ -1,5 +1,7 @@
 // Runs published test vectors of SHA-256 and HMAC-SHA-256, and lengths around each edge of a block, and
 // prints each digest.
+#![tactic(auto)]
+
 mod examples;
 mod inputs;
 mod vector;

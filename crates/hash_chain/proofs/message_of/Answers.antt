@@ -20,15 +20,15 @@ loop-i-init c = (refl, refl)
 pub loop-i-preserved : goal.loop-i-preserved
 loop-i-preserved c =
     let whole = c.args.before.now.whole in
-    let same : length c.as-bytes-bytes.result.now ≡ 32 = ap length c.as-bytes-bytes.ensures ∙ whole in
+    let same : length c.as_bytes-bytes.result.now ≡ 32 = ap length c.as_bytes-bytes.ensures ∙ whole in
     let zeros-many = many in (
-      copied_front (zeros 363) c.as-bytes-bytes.result.now c.loop-i.message c.loop-i.i (omega arith) (omega arith) c.loop-i.invariant.0,
+      copied_front (zeros 363) c.as_bytes-bytes.result.now c.loop-i.message c.loop-i.i (omega arith) (omega arith) c.loop-i.invariant.0,
       simp length-set c.loop-i.invariant.1,
     )
 
 pub returns : goal.returns
 returns c =
-    let bytes = c.as-bytes-bytes.ensures in
+    let bytes = c.as_bytes-bytes.ensures in
     let done : c.loop-i.i ≡ 32 = omega arith in
     let all = behind c.args.before.now.bytes c.args.before.now.whole in
     cc

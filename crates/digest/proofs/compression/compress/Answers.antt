@@ -8,5 +8,5 @@ composed s b first w v next l e r n = n ∙ rw (r, e, l)
 
 pub returns : goal.returns
 returns c =
-    composed c.args.s c.args.block.now c.load.result c.extend-w.result c.all-rounds-v.result c.add-words.result
-    c.load.ensures c.extend-w.ensures c.all-rounds-v.ensures c.add-words.ensures
+    composed c.args.s c.args.block.now c.load.result c.extend-w.result c.all_rounds-v.result c.add_words.result
+    c.load.ensures c.extend-w.ensures c.all_rounds-v.ensures c.add_words.ensures

@@ -11,4 +11,4 @@ loop-block-preserved c =
 
 pub returns : goal.returns
 returns c =
-    sym (whole_none c.loop-block.s c.loop-block.rest.now c.in-default.ensures.cases) ∙ c.loop-block.invariant
+    sym (whole_none c.loop-block.s c.loop-block.rest.now c.in_default.ensures.cases) ∙ c.loop-block.invariant

@@ -13,7 +13,7 @@ loop-i-preserved c =
     let s = c.args.s in
     let i = c.loop-i.i in
     let all : length s ≡ 8 = search rules in (
-      bytes_set c.loop-i.out s c.to-be-bytes-word.result i (omega arith) (omega arith) c.to-be-bytes-word.ensures c.loop-i.invariant.0,
+      bytes_set c.loop-i.out s c.to_be_bytes-word.result i (omega arith) (omega arith) c.to_be_bytes-word.ensures c.loop-i.invariant.0,
       simp length-set c.loop-i.invariant.1,
     )
 

@@ -8,6 +8,6 @@ pub returns : goal.returns
 unfolding start
 returns c =
     let block : List ℕ = key_block c.args.pad c.args.key.now in
-    let all : length block ≡ 64 = ap length (sym c.padded-key-block.ensures) ∙ search rules in
+    let all : length block ≡ 64 = ap length (sym c.padded_key-block.ensures) ∙ search rules in
     let after = sha256_after block c.args.message.now all in
     cc

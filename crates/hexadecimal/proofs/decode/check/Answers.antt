@@ -7,33 +7,33 @@ use Rattle.hexadecimal.proofs.decode.check.Goals as goal
 pub loop-i-init : goal.loop-i-init
 loop-i-init c = ([], behind_none (bytes_at 0 c.args.hex.now))
 
-pub returns-in-err-byte-at : goal.returns-in-err-byte-at
-returns-in-err-byte-at c =
-    let e = err_from_is_err_and c.from-residual.result c.from-residual.ensures.1 in
+pub returns-in_err-byte_at : goal.returns-in_err-byte_at
+returns-in_err-byte_at c =
+    let e = err_from_is_err_and c.from_residual.result c.from_residual.ensures.1 in
     let before = c.loop-i.invariant in
-    let fault = found_fault c.args.hex.now before.0 (2 * c.loop-i.i) before.1 _ (omega arith) (sym c.in-err-byte-at.ensures) in
+    let fault = found_fault c.args.hex.now before.0 (2 * c.loop-i.i) before.1 _ (omega arith) (sym c.in_err-byte_at.ensures) in
     rw (e.1, e.2) (sym (ap checked fault))
 
 pub loop-i-preserved : goal.loop-i-preserved
 loop-i-preserved c =
     let before = c.loop-i.invariant in
     let next : 2 * (c.loop-i.i + 1) ≡ 2 * c.loop-i.i + 2 = omega arith in
-    let found = found_byte c.args.hex.now before.0 (2 * c.loop-i.i) before.1 _ (omega arith) (sym c.in-ok-byte-at.ensures) in
-    (before.0 ++ c.in-ok-byte-at.field-0 ∷ [], rw next found)
+    let found = found_byte c.args.hex.now before.0 (2 * c.loop-i.i) before.1 _ (omega arith) (sym c.in_ok-byte_at.ensures) in
+    (before.0 ++ c.in_ok-byte_at.field-0 ∷ [], rw next found)
 
-pub returns-in-err-digit : goal.returns-in-err-digit
-returns-in-err-digit c =
-    let e = err_from_is_err_and c.from-residual-in-err-digit.result c.from-residual-in-err-digit.ensures.1 in
+pub returns-in_err-digit : goal.returns-in_err-digit
+returns-in_err-digit c =
+    let e = err_from_is_err_and c.from_residual-in_err-digit.result c.from_residual-in_err-digit.ensures.1 in
     let text = c.args.hex.now in
     let before = c.loop-i.invariant in
-    let fault = found_last text before.0 (2 * c.loop-i.i) before.1 (length text - 1) _ (omega arith) (omega arith) (sym c.in-err-digit.ensures) in
+    let fault = found_last text before.0 (2 * c.loop-i.i) before.1 (length text - 1) _ (omega arith) (omega arith) (sym c.in_err-digit.ensures) in
     rw (e.1, e.2) (sym (ap checked fault))
 
 pub returns-then-hex-eq1 : goal.returns-then-hex-eq1
 returns-then-hex-eq1 c =
     let text = c.args.hex.now in
     let before = c.loop-i.invariant in
-    sym (ap checked (found_last text before.0 (2 * c.loop-i.i) before.1 (length text - 1) _ (omega arith) (omega arith) (sym c.in-ok-digit.ensures)))
+    sym (ap checked (found_last text before.0 (2 * c.loop-i.i) before.1 (length text - 1) _ (omega arith) (omega arith) (sym c.in_ok-digit.ensures)))
 
 pub returns : goal.returns
 returns c =

@@ -21,25 +21,25 @@ returns-then-out-count c =
     let b = unaltered out _ _ d in
     record { answer = a; bytes = b; decoded = decoded_by text out out (Err SmallBuffer) a b; shown = decodes_shown_by text out out (Err SmallBuffer) a b }
 
-pub returns-in-err-check : goal.returns-in-err-check
-returns-in-err-check c =
-    let e = err_from_is_err_and c.from-residual.result c.from-residual.ensures.1 in
+pub returns-in_err-check : goal.returns-in_err-check
+returns-in_err-check c =
+    let e = err_from_is_err_and c.from_residual.result c.from_residual.ensures.1 in
     let text = c.args.hex.now in
     let out = c.args.out.now in
-    let fault = unsound (bytes_at 0 text) _ c.in-err-check.ensures in
+    let fault = unsound (bytes_at 0 text) _ c.in_err-check.ensures in
     let d : decoding (length out) text ≡ bytes_at 0 text = rw (le-ltb (length out) (length text / 2) c.if-out-count.false) in
     let a = sym (ap size (d ∙ fault)) in
     let b = unaltered out _ _ (d ∙ fault) in
     rw (e.1, e.2) (record { answer = a; bytes = b; decoded = decoded_by text out out (Err _) a b; shown = decodes_shown_by text out out (Err _) a b })
 
 pub fill-requires : goal.fill-requires
-fill-requires c = (omega arith, sound _ c.in-ok-check.ensures)
+fill-requires c = (record { hex_in_bounds = omega arith; hex_value = sound _ c.in_ok-check.ensures })
 
 pub returns : goal.returns
 returns c =
     let text = c.args.hex.now in
     let out = c.args.out.now in
-    let s = spelt_by text (bytes_at 0 text) refl (sound _ c.in-ok-check.ensures) in
+    let s = spelt_by text (bytes_at 0 text) refl (sound _ c.in_ok-check.ensures) in
     let d : decoding (length out) text ≡ bytes_at 0 text = rw (le-ltb (length out) (length text / 2) c.if-out-count.false) in
     let count : length text / 2 ≡ length s.bytes = omega (arith, s.even) in
     let a : Ok (length text / 2) ≡ size (decoding (length out) text) = ap Ok count ∙ sym (ap size (d ∙ s.spelt)) in

@@ -6,4 +6,4 @@ use Rattle.inspect.proofs.fields.as_text.Goals as goal
 pub returns : goal.returns
 returns c =
     ap (option_map (λ x. x.now)) c.ok.ensures.value
-    ∙ text_read _ c.args.bytes.now c.from-utf8.result (sym c.if-not-is-printable.ensures) c.from-utf8.ensures.cases
+    ∙ text_read _ c.args.bytes.now c.from_utf8.result (sym c.if-not-is_printable.ensures) c.from_utf8.ensures.cases

@@ -3,18 +3,18 @@ use Rattle.std.proofs.lemmas.Result.{err_from_is_err_and}
 use Rattle.update.proofs.Ascending.{ascending_more, ascending_cut, ascending_not}
 use Rattle.update.proofs.reader.check_digests.Goals as goal
 
-pub returns-in-err-digest : goal.returns-in-err-digest
-returns-in-err-digest c =
-    let p = err_from_is_err_and c.from-residual.result c.from-residual.ensures.1 in
-    let n : c.args.count - c.loop-k.-k ≡ suc (c.args.count - (c.loop-k.-k + 1)) = omega arith in
-    rw (p.1, p.2) (sym c.loop-k.invariant ∙ ascending_cut _ _ _ _ _ _ n c.in-err-digest.ensures)
+pub returns-in_err-digest : goal.returns-in_err-digest
+returns-in_err-digest c =
+    let p = err_from_is_err_and c.from_residual.result c.from_residual.ensures.1 in
+    let n : c.args.count - c.loop-k._k ≡ suc (c.args.count - (c.loop-k._k + 1)) = omega arith in
+    rw (p.1, p.2) (sym c.loop-k.invariant ∙ ascending_cut _ _ _ _ _ _ n c.in_err-digest.ensures)
 
-pub returns-then-not-is-below : goal.returns-then-not-is-below
-returns-then-not-is-below c =
-    let n : c.args.count - c.loop-k.-k ≡ suc (c.args.count - (c.loop-k.-k + 1)) = omega arith in
-    rw c.saturating-sub-place.ensures (sym c.loop-k.invariant ∙ ascending_not _ _ _ _ _ _ n c.in-ok-digest.ensures (sym c.if-not-is-below.ensures))
+pub returns-then-not-is_below : goal.returns-then-not-is_below
+returns-then-not-is_below c =
+    let n : c.args.count - c.loop-k._k ≡ suc (c.args.count - (c.loop-k._k + 1)) = omega arith in
+    rw c.saturating_sub-place.ensures (sym c.loop-k.invariant ∙ ascending_not _ _ _ _ _ _ n c.in_ok-digest.ensures (sym c.if-not-is_below.ensures))
 
 pub loop-k-preserved : goal.loop-k-preserved
 loop-k-preserved c =
-    let n : c.args.count - c.loop-k.-k ≡ suc (c.args.count - (c.loop-k.-k + 1)) = omega arith in
-    sym (ascending_more _ _ _ _ _ _ n c.in-ok-digest.ensures (sym c.if-not-is-below.ensures)) ∙ c.loop-k.invariant
+    let n : c.args.count - c.loop-k._k ≡ suc (c.args.count - (c.loop-k._k + 1)) = omega arith in
+    sym (ascending_more _ _ _ _ _ _ n c.in_ok-digest.ensures (sym c.if-not-is_below.ensures)) ∙ c.loop-k.invariant

@@ -5,4 +5,4 @@ use Rattle.update.proofs.writer.put.Goals as goal
 
 pub returns : goal.returns
 unfolding placed
-returns c = record { end = refl; bytes = put_mid-paste _ _ c.args.out.now _ c.args.part.now _ c.copy-from-slice.ensures.after (omega arith) refl }
+returns c = record { end = refl; bytes = put_mid-paste _ _ c.args.out.now _ c.args.part.now _ c.copy_from_slice.ensures.after (omega arith) refl }

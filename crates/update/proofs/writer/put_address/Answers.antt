@@ -3,7 +3,7 @@ use Rattle.update.specs.Layout.{address_bytes}
 use Rattle.outcome.proofs.Placing.{placed_none}
 use Rattle.update.proofs.writer.put_address.Goals as goal
 
-pub returns-in-default : goal.returns-in-default
-returns-in-default c =
-    let e = ap address_bytes c.in-default.is in
+pub returns-in_default : goal.returns-in_default
+returns-in_default c =
+    let e = ap address_bytes c.in_default.is in
     record { end = omega (arith, ap length e); bytes = placed_none _ c.args.at c.args.out.now e }

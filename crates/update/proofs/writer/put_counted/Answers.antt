@@ -5,9 +5,9 @@ use Rattle.outcome.specs.Buffers.{placed}
 use Rattle.outcome.proofs.Placing.{placed_none, placed_more}
 use Rattle.update.proofs.writer.put_counted.Goals as goal
 
-pub returns-in-default : goal.returns-in-default
-returns-in-default c =
-    let e = ap (λ o. counted_bytes c.args.unit (borrowed o)) c.in-default.is in
+pub returns-in_default : goal.returns-in_default
+returns-in_default c =
+    let e = ap (λ o. counted_bytes c.args.unit (borrowed o)) c.in_default.is in
     record { end = omega (arith, ap length e); bytes = placed_none _ c.args.at c.args.out.now e }
 
 pub returns : goal.returns

@@ -10,8 +10,8 @@ loop-b-init g c = begun g.W.Write.write_str_gives c.args.f.now
 
 pub loop-b-preserved : goal.loop-b-preserved
 loop-b-preserved g c =
-    onward g.W.Write.write_str_gives c.args.f.now c.loop-b.f c.put-byte.new.f _ _ _
-    c.loop-b.invariant (λ p. c.in-ok-put-byte.ensures p refl) (shown_more c.args.self.now.bytes.now c.loop-b.b-index (omega arith))
+    onward g.W.Write.write_str_gives c.args.f.now c.loop-b.f c.put_byte.new.f _ _ _
+    c.loop-b.invariant (λ p. c.in_ok-put_byte.ensures p refl) (shown_more c.args.self.now.bytes.now c.loop-b.b-index (omega arith))
 
 pub returns-clause-writes : goal.returns-clause-writes
 returns-clause-writes g c plain _ =

@@ -10,18 +10,18 @@ use Rattle.outcome.proofs.Placing.{placed_front}
 use Rattle.update.proofs.Texts.{refused, written}
 use Rattle.update.proofs.parts.Parts.write.Goals as goal
 
-pub returns-then-out-lt-MAX-TEXT-LEN : goal.returns-then-out-lt-MAX-TEXT-LEN
-returns-then-out-lt-MAX-TEXT-LEN c = record { answer = search rules; bytes = search rules; writes-texts = record { not_formed = λ room _. omega arith; place = refl; unaltered = refl } }
+pub returns-then-out-lt-MAX_TEXT_LEN : goal.returns-then-out-lt-MAX_TEXT_LEN
+returns-then-out-lt-MAX_TEXT_LEN c = record { answer = search rules; bytes = search rules; writes_texts = record { not_formed = λ room _. omega arith; place = refl; unaltered = refl } }
 
-pub returns-in-err-check-parts : goal.returns-in-err-check-parts
-returns-in-err-check-parts c =
-    let e = err_from_is_err_and c.from-residual.result c.from-residual.ensures.1 in
-    let small = le-ltb (length c.args.out.now) 363 c.if-out-lt-MAX-TEXT-LEN.false in
-    let fault = sym c.in-err-check-parts.ensures in
+pub returns-in_err-check_parts : goal.returns-in_err-check_parts
+returns-in_err-check_parts c =
+    let e = err_from_is_err_and c.from_residual.result c.from_residual.ensures.1 in
+    let small = le-ltb (length c.args.out.now) 363 c.if-out-lt-MAX_TEXT_LEN.false in
+    let fault = sym c.in_err-check_parts.ensures in
     rw (e.1, e.2) (record {
       answer = simp (small, fault);
       bytes = simp (small, fault);
-      writes-texts = refused (contents c.args.self) c.args.out.now _ fault;
+      writes_texts = refused (contents c.args.self) c.args.out.now _ fault;
     })
 
 pub returns : goal.returns
@@ -29,11 +29,11 @@ returns c =
     let p = contents c.args.self in
     let out = c.args.out.now in
     let fits : Fitting p = record { author = search rules; row = search rules } in
-    let small = le-ltb (length out) 363 c.if-out-lt-MAX-TEXT-LEN.false in
-    let fault : faults p ≡ Ok tt = sym c.in-ok-check-parts.ensures in
-    let left : c.put-text.new.out ≡ after {E = Refusal} (Ok (layout p)) out = c.put-text.ensures.bytes ∙ placed_front (layout p) out in
+    let small = le-ltb (length out) 363 c.if-out-lt-MAX_TEXT_LEN.false in
+    let fault : faults p ≡ Ok tt = sym c.in_ok-check_parts.ensures in
+    let left : c.put_text.new.out ≡ after {E = Refusal} (Ok (layout p)) out = c.put_text.ensures.bytes ∙ placed_front (layout p) out in
     record {
-      answer = simp (small, fault, c.put-text.ensures.end);
+      answer = simp (small, fault, c.put_text.ensures.end);
       bytes = left ∙ simp (small, fault);
-      writes-texts = rw (c.put-text.ensures.end, left) (written p out fits fault);
+      writes_texts = rw (c.put_text.ensures.end, left) (written p out fits fault);
     }
