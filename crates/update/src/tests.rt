@@ -57,7 +57,7 @@ fn reads_the_worked_example(rt: HostRuntime) -> Result<(), Fail> {
                 column: 1,
             })
     );
-    assert!(rt; bytes_of(parts.value) == b"27");
+    assert!(rt; bytes_of(parts.value) == b"27".as_slice());
     assert!(rt; !parts.predecessors.is_present() && !parts.seal.is_present());
     Ok(())
 }
