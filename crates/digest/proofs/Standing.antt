@@ -1,6 +1,5 @@
 -- The worked examples, by computation, and the laws.
 use Rattle.std.proofs.Common.{◌≡◌, ℕ, List, [], ◌∷◌, refl, arith}
-use Rattle.std.specs.Cmp.{nat_cmp_total}
 use Rattle.digest.specs.Examples.{Examples}
 use Rattle.digest.specs.Hmac.{hmac_sha256, key_block}
 use Rattle.digest.specs.Laws.{DigestsHave32Bytes, DigestsAreOrdered, PaddingEndsABlock, ConstantsAreRoots, KeysMayEndInZeros}
@@ -11,7 +10,7 @@ use Rattle.digest.proofs.Filling.{zeros_at_the_end}
 use Rattle.digest.proofs.Padding.{length-padding}
 use Rattle.outcome.proofs.Ranking.{same_from_rank}
 use Rattle.digest.proofs.Sizes.{sha256_digests, hmac_digests}
-use Rattle.std.specs.Cmp.Lexicographic.{lists_total}
+use Rattle.std.specs.Cmp.Lexicographic.{on_texts}
 
 pub examples_hold : (d : List ℕ) → d ≡ sha256 (0x61 ∷ 0x62 ∷ 0x63 ∷ []) → Examples d
 unfolding hmac_sha256 key_block constants start padding bytes_of first_words next_word grown schedule temp1 temp2 round_of rounds sums compressed absorbed whole sha256
@@ -22,13 +21,7 @@ sizes = record { of_messages = sha256_digests; of_seals = hmac_digests }
 
 pub ordered : DigestsAreOrdered
 ordered = record {
-  total = record {
-    cmp = digest_rank;
-    says = λ x y o h. h;
-    flip = λ x y. (lists_total nat_cmp_total).antisymm x.bytes y.bytes;
-    trans = λ x y z. (lists_total nat_cmp_total).trans x.bytes y.bytes z.bytes;
-    alike = λ x y z. (lists_total nat_cmp_total).congr x.bytes y.bytes z.bytes;
-  };
+  total = on_texts (λ d. d.bytes);
   apart = λ x y. same_from_rank x.bytes y.bytes;
 }
 

@@ -19,7 +19,7 @@ pub record DigestsHave32Bytes : Type 0 where
 
 -- their order is total, and tells any two apart
 pub record DigestsAreOrdered : Type 0 where
-  pub total : IsTotalOrder (λ (x y : Digest) (o : Ordering). o ≡ digest_rank x y)
+  pub total : IsTotalOrder digest_rank
   pub apart : (x y : Digest) → digest_rank x y ≡ Equal → x.bytes ≡ y.bytes
 
 -- the padding of a message of n bytes ends a block, and has fewer zeros than a block has bytes

@@ -1,12 +1,12 @@
 // Digests as values: their bytes, their order, and how they are shown.
-ghost use Rattle.std.specs.Prelude.{◌≡◌, Some, Decides, refl};
+ghost use Rattle.std.specs.Prelude.{◌≡◌, Some, nat_eq};
+ghost use Rattle.std.proofs.Common.{rules};
+ghost use Rattle.std.specs.Cmp.Rules.{comparing};
+ghost use Rattle.std.specs.Cmp.Lexicographic.{pointwise};
+ghost use Rattle.std.specs.Ordering.{on, as_partial_cmp};
 ghost use Rattle.hexadecimal.specs.Showing.{shown_bytes};
 ghost use Rattle.outcome.specs.Order.{bytes_rank};
 ghost use Rattle.digest.specs.Order.{digest_rank};
-ghost use Rattle.std.specs.Cmp.Rules.{comparing};
-ghost use Rattle.std.proofs.Common.{rules, arith};
-ghost use Rattle.std.specs.Cmp as Keys;
-ghost use Rattle.std.specs.Cmp.{partial_order_from_agreeing_total};
 
 use crate::Digest;
 use hexadecimal::show::Hex;
@@ -39,10 +39,11 @@ fn order(a: &[u8; 32], b: &[u8; 32]) -> Ordering
     Ordering::Equal
 }
 
+// Two digests are the same if their bytes are.
 impl PartialEq for Digest {
-    ghost equals = { λ x y r. Decides r (x.bytes ≡ y.bytes) };
+    ghost eq = { on (λ d. d.bytes) (pointwise nat_eq) };
 
-    ghost laws = { Keys.partial_equiv_from_equiv (first_of (Prim.search (comparing, rules), Prim.grind (arith, Self.row.coded.inj))) };
+    ghost laws = { Prim.search (comparing, rules) };
 
     fn eq(&self, other: &Digest) -> bool {
         self.cmp(other).is_eq()
@@ -50,13 +51,13 @@ impl PartialEq for Digest {
 }
 
 impl Eq for Digest {
-    ghost laws = { first_of (Prim.search (comparing, rules), Prim.grind (arith, Self.row.coded.inj)) };
+    ghost laws = { Prim.search (comparing, rules) };
 }
 
 impl PartialOrd for Digest {
-    ghost partial_cmp = { λ x y. Some (digest_rank x y) };
+    ghost partial_cmp = { as_partial_cmp digest_rank };
 
-    ghost laws = { partial_order_from_agreeing_total (λ x y. digest_rank x y) (first_of (Prim.search (comparing, rules), Prim.grind (arith, Self.row.coded.inj))) (λ _ _. refl) (first_of (Prim.search (comparing, rules), Prim.grind (arith, Self.row.coded.inj))) };
+    ghost laws = { Prim.search (comparing, rules) };
 
     fn partial_cmp(&self, other: &Digest) -> Option<Ordering> {
         Some(self.cmp(other))
@@ -64,13 +65,13 @@ impl PartialOrd for Digest {
 }
 
 impl Ord for Digest {
-    ghost cmp = { λ x y. digest_rank x y };
+    ghost cmp = { digest_rank };
 
-    ghost total = { first_of (Prim.search (comparing, rules), Prim.grind (arith, Self.row.coded.inj)) };
+    ghost total = { Prim.search (comparing, rules) };
 
-    ghost matches_partial_cmp = { first_of (Prim.search (comparing, rules), Prim.grind (arith, Self.row.coded.inj)) };
+    ghost matches_partial_cmp = { Prim.search (comparing, rules) };
 
-    ghost matches_eq = { first_of (Prim.search (comparing, rules), Prim.grind (arith, Self.row.coded.inj)) };
+    ghost matches_eq = { Prim.search (comparing, rules) };
 
     fn cmp(&self, other: &Digest) -> Ordering {
         order(&self.bytes, &other.bytes)
