@@ -32,7 +32,7 @@ fn as_text(bytes: &[u8]) -> Option<&str>
 }
 
 fn put_address<W: fmt::Write>(f: &mut fmt::Formatter<W>, address: Option<Address>) -> fmt::Result
-    ensures { WritesOnOk write_str_gives f.old result (address_shown address) f.new }
+    ensures { WritesOnOk W.write_str_gives f.old result (address_shown address) f.new }
 {
     let Some(Address { table, row, column }) = address else {
         return Ok(());
@@ -45,7 +45,7 @@ fn put_value<W: fmt::Write>(
     at_address: bool,
     value: Field,
 ) -> fmt::Result
-    ensures { WritesOnOk write_str_gives f.old result (value_shown at_address (borrowed value.entry)) f.new }
+    ensures { WritesOnOk W.write_str_gives f.old result (value_shown at_address (borrowed value.entry)) f.new }
 {
     let Field::Present(bytes) = value else {
         if at_address {
@@ -61,7 +61,7 @@ fn put_value<W: fmt::Write>(
 }
 
 fn put_predecessors<W: fmt::Write>(f: &mut fmt::Formatter<W>, predecessors: Field) -> fmt::Result
-    ensures { WritesOnOk write_str_gives f.old result (predecessors_shown (borrowed predecessors.entry)) f.new }
+    ensures { WritesOnOk W.write_str_gives f.old result (predecessors_shown (borrowed predecessors.entry)) f.new }
 {
     let Field::Present(mut rest) = predecessors else {
         return Ok(());
@@ -75,7 +75,7 @@ fn put_predecessors<W: fmt::Write>(f: &mut fmt::Formatter<W>, predecessors: Fiel
 }
 
 fn put_seal<W: fmt::Write>(f: &mut fmt::Formatter<W>, seal: Field) -> fmt::Result
-    ensures { WritesOnOk write_str_gives f.old result (seal_shown (borrowed seal.entry)) f.new }
+    ensures { WritesOnOk W.write_str_gives f.old result (seal_shown (borrowed seal.entry)) f.new }
 {
     let Field::Present(bytes) = seal else {
         return Ok(());
@@ -86,7 +86,7 @@ fn put_seal<W: fmt::Write>(f: &mut fmt::Formatter<W>, seal: Field) -> fmt::Resul
 
 // Every part, in words.
 pub fn put_parts<W: fmt::Write>(f: &mut fmt::Formatter<W>, parts: Parts) -> fmt::Result
-    ensures { WritesOnOk write_str_gives f.old result (parts_shown (contents parts.entry)) f.new }
+    ensures { WritesOnOk W.write_str_gives f.old result (parts_shown (contents parts.entry)) f.new }
 {
     let author = parts.author;
     write!(f, "\n  author {author}")?;

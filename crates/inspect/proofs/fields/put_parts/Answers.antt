@@ -14,7 +14,7 @@ returns g c plain ok =
     (onward took f c.put_value.new.f c.put_predecessors.new.f _ _ _
     (onward took f c.put_address.new.f c.put_value.new.f _ _ _
     (onward took f c.write.new.self c.put_address.new.f _ _ _
-    (λ p. c.in_ok-write.ensures.shows p refl)
+    (λ p. c.in_ok-write.ensures.writes p refl)
     (λ p. c.in_ok-put_address.ensures p refl) refl)
     (λ p. has_written_of_eq took _ _ _ _ value (c.in_ok-put_value.ensures p refl)) refl)
     (λ p. c.in_ok-put_predecessors.ensures p refl) refl)

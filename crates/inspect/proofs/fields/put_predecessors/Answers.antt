@@ -14,5 +14,5 @@ loop-digest-preserved g c =
       before.0 ++ line,
       append_assoc before.0 line _ ∙ ap (λ (l : List ℕ). before.0 ++ l) (predecessor_next rest c.in-Some.after.now (omega arith) found.1) ∙ before.1,
       onward g.W.Write.write_str_gives c.args.f.now c.loop-digest.f c.write.new.self before.0 line _ before.2
-          (λ p. has_written_of_eq g.W.Write.write_str_gives _ _ _ _ (ap (λ (d : List ℕ). codes "\n  predecessor " ++ shown_bytes d) found.0) (c.in_ok-write.ensures.shows p refl)) refl,
+          (λ p. has_written_of_eq g.W.Write.write_str_gives _ _ _ _ (ap (λ (d : List ℕ). codes "\n  predecessor " ++ shown_bytes d) found.0) (c.in_ok-write.ensures.writes p refl)) refl,
     )

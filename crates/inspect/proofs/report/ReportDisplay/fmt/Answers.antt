@@ -4,10 +4,10 @@ use Rattle.std.proofs.Common.{refl}
 use Rattle.inspect.proofs.Phrases.{update_phrase, refused_phrase, not_hex_phrase}
 use Rattle.inspect.proofs.report.ReportDisplay.fmt.Goals as goal
 
-pub returns-in_ok-write-clause-writes : goal.returns-in_ok-write-clause-writes
-returns-in_ok-write-clause-writes g c plain ok =
+pub returns-in_ok-write-in-Read-clause-writes : goal.returns-in_ok-write-in-Read-clause-writes
+returns-in_ok-write-in-Read-clause-writes g c plain ok =
     onward g.W.Write.write_str_gives c.args.f.now c.write.new.self c.put_parts.new.f _ _ _
-    (λ p. c.in_ok-write.ensures.shows p refl) (λ p. c.put_parts.ensures p ok)
+    (λ p. c.in_ok-write-in-Read.ensures.writes p refl) (λ p. c.put_parts.ensures p ok)
     (update_phrase c.args.self.now c.in-Read.length c.in-Read.parts c.in-Read.is) plain
 
 pub returns-in-Refused-clause-writes : goal.returns-in-Refused-clause-writes
