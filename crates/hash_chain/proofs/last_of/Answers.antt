@@ -8,4 +8,4 @@ loop-i-init c = c.new-digest.ensures
 
 pub loop-i-preserved : goal.loop-i-preserved
 unfolding chained
-loop-i-preserved c = rw (add-one c.loop-i.-i) (cc)
+loop-i-preserved c = rw (add-one c.loop-i._i) (cc)
