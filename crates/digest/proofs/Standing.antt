@@ -3,7 +3,6 @@ use Rattle.std.proofs.Common.{◌≡◌, ℕ, List, [], ◌∷◌, refl, arith}
 use Rattle.digest.specs.Examples.{Examples}
 use Rattle.digest.specs.Hmac.{hmac_sha256, key_block}
 use Rattle.digest.specs.Laws.{DigestsHave32Bytes, DigestsAreOrdered, PaddingEndsABlock, ConstantsAreRoots, KeysMayEndInZeros}
-use Rattle.digest.specs.Order.{digest_rank}
 use Rattle.digest.specs.Sha256.{constants, start, padding, bytes_of, first_words, next_word, grown, schedule}
 use Rattle.digest.specs.Sha256.{temp1, temp2, round_of, rounds, sums, compressed, absorbed, whole, sha256}
 use Rattle.digest.proofs.Filling.{zeros_at_the_end}

@@ -1,7 +1,6 @@
 -- What holds of every digest and seal. Callers use these laws, and never look inside the definitions.
 use Rattle.std.specs.Prelude.{◌≡◌, ℕ, ◌+◌, ◌%◌, ◌<◌, ◌≤◌, true, List, ◌++◌, length, replicate, slice_index}
 use Rattle.std.specs.declared.cmp.Ordering.TheVariants.{Equal}
-use Rattle.std.specs.declared.cmp.Ordering.{Ordering}
 use Rattle.std.specs.Cmp.{IsTotalOrder}
 use Rattle.digest.specs.declared.Digest.{Digest}
 use Rattle.digest.specs.Hmac.{hmac_sha256}

@@ -1,4 +1,4 @@
-use Rattle.std.proofs.Common.{◌≡◌, ℕ, ◌+◌, ◌-◌, ◌*◌, ◌<◌, ◌≤◌, length, take, sym, refl, ◌∙◌, arith, length-set, rules}
+use Rattle.std.proofs.Common.{◌≡◌, ℕ, ◌+◌, ◌*◌, ◌<◌, ◌≤◌, length, take, sym, refl, ◌∙◌, arith, length-set, rules}
 use Rattle.std.proofs.lemmas.List.{take_all}
 use Rattle.digest.specs.Sha256.{grown, next_word}
 use Rattle.digest.proofs.Schedule.{grown_more}
