@@ -49,7 +49,8 @@ fn put(out: [u8; 128], at: usize, part: &[u8]) -> [u8; 128]
 
 // The last block of a message, or the last two: the rest behind its whole blocks, and the padding.
 fn last_blocks(rest: &[u8], len: u64) -> [u8; 128]
-    requires { (length rest.now < 64) × (length rest.now ≡ len % 64) }
+    requires short { length rest.now < 64 }
+    requires left { length rest.now ≡ len % 64 }
     ensures { take (last_size (length rest.now)) result ≡ rest.now ++ padding len }
 {
     let mut out = put([0; 128], 0, rest);

@@ -49,8 +49,8 @@ fn check(hex: &[u8]) -> Result<(), HexError>
 
 // Writes the bytes of a text without faults.
 fn fill(hex: &[u8], out: &mut [u8])
-    requires hex_in_bounds { length hex.now / 2 ≤ length out.old }
-    requires hex_value { is_ok (bytes_at 0 hex.now) ≡ true }
+    requires room { length hex.now / 2 ≤ length out.old }
+    requires no_fault { is_ok (bytes_at 0 hex.now) ≡ true }
     ensures { out.new ≡ after (bytes_at 0 hex.now) out.old }
 {
     for i in 0..hex.len() / 2 {

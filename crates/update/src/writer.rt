@@ -113,9 +113,9 @@ fn put_plain(out: &mut [u8], at: usize, part: Field) -> usize
 }
 
 fn put_counted(out: &mut [u8], at: usize, unit: usize, part: Field) -> usize
-    requires unit_nonzero { 0 < unit }
-    requires unit_len_bound { length (plain_bytes (borrowed part)) / unit < 256 }
-    requires part_in_bounds { at + length (counted_bytes unit (borrowed part)) ≤ length out.old }
+    requires some_unit { 0 < unit }
+    requires few_units { length (plain_bytes (borrowed part)) / unit < 256 }
+    requires room { at + length (counted_bytes unit (borrowed part)) ≤ length out.old }
     ensures end { result ≡ at + length (counted_bytes unit (borrowed part.entry)) }
     ensures bytes { out.new ≡ placed at (counted_bytes unit (borrowed part.entry)) out.old }
 {
@@ -127,8 +127,8 @@ fn put_counted(out: &mut [u8], at: usize, unit: usize, part: Field) -> usize
 }
 
 fn put_text(out: &mut [u8], parts: Parts) -> usize
-    requires in_bounds { 363 ≤ length out.old }
-    requires parts_value { faults (contents parts) ≡ Ok tt }
+    requires room { 363 ≤ length out.old }
+    requires no_fault { faults (contents parts) ≡ Ok tt }
     ensures end { result ≡ length (layout (contents parts.entry)) }
     ensures bytes { out.new ≡ placed 0 (layout (contents parts.entry)) out.old }
 {

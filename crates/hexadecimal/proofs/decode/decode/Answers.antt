@@ -33,7 +33,7 @@ returns-in_err-check c =
     rw (e.1, e.2) (record { answer = a; bytes = b; decoded = decoded_by text out out (Err _) a b; shown = decodes_shown_by text out out (Err _) a b })
 
 pub fill-requires : goal.fill-requires
-fill-requires c = (record { hex_in_bounds = omega arith; hex_value = sound _ c.in_ok-check.ensures })
+fill-requires c = (record { room = omega arith; no_fault = sound _ c.in_ok-check.ensures })
 
 pub returns : goal.returns
 returns c =

@@ -14,8 +14,8 @@ loop-i-preserved c =
     let i = c.loop-i.i in
     elim c.match-byte_at.branch [
       | in-Ok w ↦ rw w.out-is (filled_more text c.args.out.now out i w.in-Ok.byte c.loop-i.invariant (omega arith) (omega arith) (sym c.byte_at.ensures ∙ w.in-Ok.is))
-      | in_default w ↦ absurd (not_both _ _ c.requires.hex_value (found_fault text (take i out) (2 * i) c.loop-i.invariant.front _ (omega arith) (sym c.byte_at.ensures ∙ w.in_default.is)))
+      | in_default w ↦ absurd (not_both _ _ c.requires.no_fault (found_fault text (take i out) (2 * i) c.loop-i.invariant.front _ (omega arith) (sym c.byte_at.ensures ∙ w.in_default.is)))
     ]
 
 pub returns : goal.returns
-returns c = filled_all c.args.hex.now c.args.out.now c.loop-i.out c.loop-i.i c.loop-i.invariant (omega arith) (omega arith) c.requires.hex_value
+returns c = filled_all c.args.hex.now c.args.out.now c.loop-i.out c.loop-i.i c.loop-i.invariant (omega arith) (omega arith) c.requires.no_fault

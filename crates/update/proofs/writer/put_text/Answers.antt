@@ -9,7 +9,7 @@ use Rattle.update.proofs.writer.put_text.Goals as goal
 pub put_plain-requires : goal.put_plain-requires
 put_plain-requires c =
     let p = contents c.args.parts in
-    let l = lengths p (formed p (tested p c.requires.parts_value)) in
+    let l = lengths p (formed p (tested p c.requires.no_fault)) in
     omega arith
 
 pub returns : goal.returns
