@@ -1,7 +1,7 @@
 #!/usr/bin/env python3
 """Times SHA-256 over 64 MiB in messages of 363 bytes: the program `hash_chain` beside OpenSSL, in one run.
 
-    rt check hash_chain && tools/hash_speed.py [ROUNDS]
+    (cd crates/hash_chain && rt run) && tools/hash_speed.py [ROUNDS]
 
 OpenSSL's library runs the same chain of messages from a small C program, three times: as the machine has it, with
 its hardware SHA instructions masked, and with every extension masked. The programs take turns; of each, the best
@@ -68,7 +68,7 @@ def main():
         with open(source, "w", encoding="ascii") as f:
             f.write(C_CHAIN)
         subprocess.run(["cc", "-O3", "-o", program, source, "-l:libcrypto.so.3"], check=True)
-        runs = [("hash_chain", ["target/bin/hash_chain"], None)] + [(name, [program], mask) for name, mask in MASKS]
+        runs = [("hash_chain", ["crates/hash_chain/out/hash_chain"], None)] + [(name, [program], mask) for name, mask in MASKS]
         best, outs = {}, set()
         for _ in range(rounds):
             for name, command, mask in runs:

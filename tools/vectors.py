@@ -4,7 +4,7 @@ The published digests are held to them too.
 
     tools/vectors.py vectors    > crates/vectors/stdout
     tools/vectors.py hash_chain > crates/hash_chain/stdout
-    tools/vectors.py check      both programs in target/bin, run and compared
+    tools/vectors.py check      both programs as `rt run` built them, run and compared
 """
 import hashlib
 import hmac
@@ -63,7 +63,7 @@ def hash_chain():
 
 def check():
     for name, expected in (("vectors", vectors()), ("hash_chain", hash_chain())):
-        got = subprocess.run(["target/bin/" + name], stdout=subprocess.PIPE, check=True).stdout.decode("ascii")
+        got = subprocess.run(["crates/%s/out/%s" % (name, name)], stdout=subprocess.PIPE, check=True).stdout.decode("ascii")
         if got != expected:
             sys.exit("%s prints something else" % name)
         print("%s: alike" % name)
