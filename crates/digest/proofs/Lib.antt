@@ -1,7 +1,7 @@
 pub mod Schedule
+pub mod Arrays
 pub mod Blocks
 pub mod Padding
-pub mod Words
 pub mod KeyBlock
 pub mod Sizes
 pub mod Filling

@@ -7,7 +7,7 @@ use Rattle.digest.specs.Sha256.{constants, start, padding, bytes_of, first_words
 use Rattle.digest.specs.Sha256.{temp1, temp2, round_of, rounds, sums, compressed, absorbed, whole, sha256}
 use Rattle.digest.proofs.Filling.{zeros_at_the_end}
 use Rattle.digest.proofs.Padding.{length-padding}
-use Rattle.outcome.proofs.Ranking.{same_from_rank}
+use Rattle.std.proofs.lemmas.Map.Lookups.{exact_bytes}
 use Rattle.digest.proofs.Sizes.{sha256_digests, hmac_digests}
 use Rattle.std.specs.Cmp.Lexicographic.{on_texts}
 
@@ -21,7 +21,7 @@ sizes = record { of_messages = sha256_digests; of_seals = hmac_digests }
 pub ordered : DigestsAreOrdered
 ordered = record {
   total = on_texts (λ d. d.bytes);
-  apart = λ x y. same_from_rank x.bytes y.bytes;
+  apart = λ x y. exact_bytes x.bytes y.bytes;
 }
 
 pub ends_a_block : PaddingEndsABlock

@@ -1,11 +1,10 @@
 -- HMAC over SHA-256, as RFC 2104 defines it.
-use Rattle.std.specs.Prelude.{ℕ, ◌-◌, cond, List, [], ◌∷◌, ◌++◌, length, replicate, bit_xor, nat_lt}
+use Rattle.std.specs.Prelude.{ℕ, ◌-◌, cond, List, ◌++◌, length, map, replicate, bit_xor, nat_lt}
 use Rattle.digest.specs.Sha256.{sha256}
 
 -- each byte, xored with x
 abbrev pub xored : ℕ → List ℕ → List ℕ
-xored x [] = []
-xored x (b ∷ bs) = bit_xor b x ∷ xored x bs
+xored x = map (λ b. bit_xor b x)
 
 -- a key of more bytes than a block has is replaced by its digest
 abbrev pub short_key : List ℕ → List ℕ

@@ -1,6 +1,7 @@
 -- SHA-256 as FIPS 180-4 defines it, over bytes and words as numbers: a byte is below 2 ^ 8, a word below 2 ^ 32.
 -- The standard's section stands before each definition.
 use Rattle.std.specs.Prelude.{ℕ, zero, suc, ◌+◌, ◌-◌, ◌*◌, ◌/◌, ◌%◌, ◌^◌, cond, List, [], ◌∷◌, ◌++◌, length, take, drop, replicate, bit_and, bit_or, bit_xor, nat_lt, slice_index, slice_index_or}
+use Rattle.std.specs.List.{flat_map}
 
 -- 2.2.2, 3.2: operations on words
 
@@ -71,8 +72,7 @@ be64 n =
 
 -- the bytes of words
 unfoldable pub bytes_of : List ℕ → List ℕ
-bytes_of [] = []
-bytes_of (x ∷ xs) = be32 x ++ bytes_of xs
+bytes_of = flat_map be32
 
 -- the word i of a block
 abbrev pub word_at : List ℕ → ℕ → ℕ

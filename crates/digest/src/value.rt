@@ -1,16 +1,9 @@
-// Digests as values: their bytes, their order, and how they are shown.
-ghost use Rattle.std.specs.Prelude.{◌≡◌, Some, nat_eq};
-ghost use Rattle.std.proofs.Common.{rules};
-ghost use Rattle.std.specs.Cmp.Rules.{comparing};
-ghost use Rattle.std.specs.Cmp.Lexicographic.{pointwise};
-ghost use Rattle.std.specs.Ordering.{on, as_partial_cmp};
+// Digests as values: their bytes, and how they are shown.
+ghost use Rattle.std.specs.Prelude.{◌≡◌, Some};
 ghost use Rattle.hexadecimal.specs.Showing.{shown_bytes};
-ghost use Rattle.outcome.specs.Order.{bytes_rank};
-ghost use Rattle.digest.specs.Order.{digest_rank};
 
 use crate::Digest;
 use hexadecimal::show::Hex;
-use std::cmp::Ordering;
 use std::fmt;
 
 impl Digest {
@@ -24,57 +17,6 @@ impl Digest {
         ensures { result.now ≡ self.now.bytes }
     {
         &self.bytes
-    }
-}
-
-fn order(a: &[u8; 32], b: &[u8; 32]) -> Ordering
-    ensures { result ≡ bytes_rank a.now b.now }
-{
-    for i in 0..32 {
-        let by_byte = a[i].cmp(&b[i]);
-        if by_byte.is_ne() {
-            return by_byte;
-        }
-    }
-    Ordering::Equal
-}
-
-// Two digests are the same if their bytes are.
-impl PartialEq for Digest {
-    ghost eq = { on (λ d. d.bytes) (pointwise nat_eq) };
-
-    ghost laws = { Prim.search (comparing, rules) };
-
-    fn eq(&self, other: &Digest) -> bool {
-        self.cmp(other).is_eq()
-    }
-}
-
-impl Eq for Digest {
-    ghost laws = { Prim.search (comparing, rules) };
-}
-
-impl PartialOrd for Digest {
-    ghost partial_cmp = { as_partial_cmp digest_rank };
-
-    ghost laws = { Prim.search (comparing, rules) };
-
-    fn partial_cmp(&self, other: &Digest) -> Option<Ordering> {
-        Some(self.cmp(other))
-    }
-}
-
-impl Ord for Digest {
-    ghost cmp = { digest_rank };
-
-    ghost total = { Prim.search (comparing, rules) };
-
-    ghost matches_partial_cmp = { Prim.search (comparing, rules) };
-
-    ghost matches_eq = { Prim.search (comparing, rules) };
-
-    fn cmp(&self, other: &Digest) -> Ordering {
-        order(&self.bytes, &other.bytes)
     }
 }
 

@@ -10,19 +10,21 @@ use std::io;
 
 const COUNT: usize = 184_873;
 
+const MESSAGE_LEN: usize = 363;
+
 // The digest, and zeros behind it.
-pub fn message_of(before: &Digest) -> [u8; 363]
+#[tactic(auto, unfolding(crate::specs::Chain::zeros))]
+pub fn message_of(before: &Digest) -> [u8; MESSAGE_LEN]
     ensures { result ≡ before.now.bytes ++ zeros 331 }
 {
-    let mut message = [0; 363];
+    let mut message = [0; MESSAGE_LEN];
     let bytes = before.as_bytes();
-    for i in 0..32 {
-        message[i] = bytes[i];
-    }
+    message[..bytes.len()].copy_from_slice(bytes);
     message
 }
 
 // The last digest of so many messages, the first of which is all zeros.
+#[tactic(auto, unfolding(crate::specs::Chain::chained, crate::specs::Chain::zeros))]
 pub fn last_of(count: usize) -> Digest
     ensures { result.bytes ≡ chained count }
 {

@@ -4,8 +4,10 @@ use Rattle.std.proofs.lemmas.List.{drop_more, drop_all, drop-drop, drop-set-lt, 
 use Rattle.std.proofs.lemmas.Bool.{le-ltb, ltb-false}
 use Rattle.std.proofs.lemmas.Bool.Decides.{nat_tests}
 use Rattle.hexadecimal.specs.declared.decode.HexError.{HexError}
-use Rattle.hexadecimal.specs.declared.decode.HexError.TheVariants.{SmallBuffer, OddLength}
+use Rattle.hexadecimal.specs.declared.decode.HexError.TheVariants.{SmallBuffer}
 use Rattle.hexadecimal.specs.Decoding.{digit_at, byte_of, bytes_at, checked, decoding, Decoded, DecodesShown}
+use Rattle.std.specs.Simd.{first_chunks}
+use Rattle.outcome.proofs.Chunks.{chunk_item}
 use Rattle.outcome.proofs.Steps.{no_ok, ok_same, bind_then, stay}
 use Rattle.outcome.specs.Outcomes.{bind}
 use Rattle.outcome.specs.Buffers.{after, size}
@@ -26,14 +28,17 @@ two_digits text i h =
     let b : drop (i + 1) text ≡ get_or text (i + 1) 0 ∷ drop (i + 1 + 1) text = drop_more text (i + 1) 0 h in
     rw (a, b, add_assoc i 1 1)
 
-one_digit : (text : List ℕ) (i : ℕ) → i + 1 ≡ length text → bytes_at i (drop i text) ≡ bind (digit_at i (get_or text i 0)) λ _. Err OddLength
-one_digit text i h =
-    let a : drop i text ≡ get_or text i 0 ∷ drop (i + 1) text = drop_more text i 0 (omega arith) in
-    rw (a, drop_all (i + 1) text (omega arith))
-
 behind_push : (done : List ℕ) (b : ℕ) (r : Result (List ℕ) HexError) → behind done (bind r λ l. Ok (b ∷ l)) ≡ behind (done ++ b ∷ []) r
 behind_push done b (Ok l) = ap Ok (sym (append_assoc done (b ∷ []) l))
 behind_push done b (Err e) = refl
+
+-- the byte of the pair i
+pub pair_at : (text : List ℕ) (pairs : List (List ℕ)) (i : ℕ) → pairs ≡ first_chunks 2 (length text / 2) text → i < length text / 2
+    → byte_of (2 * i) (get_or (get_or pairs i []) 0 0) (get_or (get_or pairs i []) 1 0) ≡ byte_of (2 * i) (get_or text (2 * i) 0) (get_or text (2 * i + 1) 0)
+pair_at text pairs i e h =
+    let n = length text / 2 in
+    let a : 2 * i + 0 ≡ 2 * i = omega arith in
+    rw (e, chunk_item 2 n i 0 text h (omega arith), chunk_item 2 n i 1 text h (omega arith), a) refl
 
 -- what the text is, given what was found before i
 module _ (text done : List ℕ) (i : ℕ) (before : bytes_at 0 text ≡ behind done (bytes_at i (drop i text))) where
@@ -42,13 +47,6 @@ module _ (text done : List ℕ) (i : ℕ) (before : bytes_at 0 text ≡ behind d
 
   pub found_fault : (e : HexError) → i + 1 < length text → byte_of i (get_or text i 0) (get_or text (i + 1) 0) ≡ Err e → bytes_at 0 text ≡ Err e
   found_fault e h k = before ∙ rw (two_digits text i h, k)
-
-  pub found_last : (place : ℕ) (r : Result ℕ HexError) → place ≡ i → i + 1 ≡ length text → digit_at place (get_or text place 0) ≡ r → bytes_at 0 text ≡ bind r λ _. Err OddLength
-  found_last place r e h k = before ∙ rw (one_digit text i h, ← e, k) (last r)
-    where
-      last : (r : Result ℕ HexError) → behind done (bind r λ _. Err OddLength) ≡ bind r λ _. Err OddLength
-      last (Ok d) = refl
-      last (Err e) = refl
 
   pub found_all : i ≡ length text → bytes_at 0 text ≡ Ok done
   found_all h = before ∙ rw (drop_all i text (omega arith), append-nil done)

@@ -1,5 +1,6 @@
 -- Bytes as hexadecimal text.
-use Rattle.std.specs.Prelude.{ℕ, ◌+◌, ◌/◌, ◌%◌, cond, List, [], ◌∷◌, ◌++◌, nat_lt}
+use Rattle.std.specs.Prelude.{ℕ, ◌+◌, ◌/◌, ◌%◌, cond, List, [], ◌∷◌, nat_lt}
+use Rattle.std.specs.List.{flat_map}
 
 -- the code of a digit in lower case
 abbrev pub digit_of : ℕ → ℕ
@@ -9,5 +10,4 @@ abbrev pub byte_shown : ℕ → List ℕ
 byte_shown b = digit_of (b / 16) ∷ digit_of (b % 16) ∷ []
 
 abbrev pub shown_bytes : List ℕ → List ℕ
-shown_bytes [] = []
-shown_bytes (b ∷ l) = byte_shown b ++ shown_bytes l
+shown_bytes = flat_map byte_shown

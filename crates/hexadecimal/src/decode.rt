@@ -1,11 +1,11 @@
 // Hexadecimal text to bytes: two digits for each byte, in either case.
-ghost use Rattle.std.specs.Prelude.{◌≡◌, ◌+◌, ◌/◌, ◌<◌, ◌≤◌, true, length, is_ok, Some, slice_index};
+ghost use Rattle.std.specs.Prelude.{◌≡◌, ◌+◌, ◌/◌, ◌<◌, ◌≤◌, ◌^◌, true, length, is_ok, Some, slice_index};
 ghost use Rattle.hexadecimal.specs.Decoding.{fault_shown, digit_at, byte_of, bytes_at, checked, decoding, Decoded, DecodesShown};
 ghost use Rattle.outcome.specs.Buffers.{after, size};
 
 use std::fmt;
 
-#[derive(Clone, Copy, Debug)]
+#[derive(Clone, Copy, PartialEq, Eq, Debug)]
 pub enum HexError {
     // The buffer has less than a byte for every two characters.
     SmallBuffer,
@@ -25,36 +25,41 @@ fn digit(c: u8, place: usize) -> Result<u8, HexError>
     }
 }
 
-fn byte_at(hex: &[u8], place: usize) -> Result<u8, HexError>
-    requires { place + 1 < length hex.now }
-    ensures { result ≡ byte_of place (slice_index hex.now place) (slice_index hex.now (place + 1)) }
+// The byte of two digits, which begin at `place`.
+fn byte_at(pair: &[u8; 2], place: usize) -> Result<u8, HexError>
+    requires { place + 1 < 2 ^ 64 }
+    ensures { result ≡ byte_of place (slice_index pair.now 0) (slice_index pair.now 1) }
 {
-    let high = digit(hex[place], place)?;
-    let low = digit(hex[place + 1], place + 1)?;
+    let [high, low] = *pair;
+    let high = digit(high, place)?;
+    let low = digit(low, place + 1)?;
     Ok(high * 16 + low)
 }
 
 fn check(hex: &[u8]) -> Result<(), HexError>
     ensures { result ≡ checked (bytes_at 0 hex.now) }
 {
-    for i in 0..hex.len() / 2 {
-        byte_at(hex, 2 * i)?;
+    let (pairs, rest) = hex.as_chunks::<2>();
+    for (i, pair) in pairs.iter().enumerate() {
+        byte_at(pair, 2 * i)?;
     }
-    if hex.len() % 2 == 1 {
-        digit(hex[hex.len() - 1], hex.len() - 1)?;
+    if let [last] = rest {
+        digit(*last, hex.len() - 1)?;
         return Err(HexError::OddLength);
     }
     Ok(())
 }
 
-// Writes the bytes of a text without faults.
+// Writes the bytes of a text without faults, by index: of bytes that `iter_mut` lends a proof knows
+// only how many they are.
 fn fill(hex: &[u8], out: &mut [u8])
     requires room { length hex.now / 2 ≤ length out.old }
     requires no_fault { is_ok (bytes_at 0 hex.now) ≡ true }
     ensures { out.new ≡ after (bytes_at 0 hex.now) out.old }
 {
-    for i in 0..hex.len() / 2 {
-        if let Ok(byte) = byte_at(hex, 2 * i) {
+    let (pairs, _) = hex.as_chunks::<2>();
+    for (i, pair) in pairs.iter().enumerate() {
+        if let Ok(byte) = byte_at(pair, 2 * i) {
             out[i] = byte;
         }
     }

@@ -1,7 +1,7 @@
 // Bytes to hexadecimal text, in lower case.
-ghost use Rattle.std.specs.Prelude.{◌≡◌, ◌<◌, Some};
+ghost use Rattle.std.specs.Prelude.{Some};
 ghost use Rattle.std.specs.Fmt.{WritesOnOk};
-ghost use Rattle.hexadecimal.specs.Showing.{digit_of, byte_shown, shown_bytes};
+ghost use Rattle.hexadecimal.specs.Showing.{byte_shown, shown_bytes};
 
 use std::fmt;
 
@@ -11,22 +11,10 @@ pub struct Hex<'a> {
     pub bytes: &'a [u8],
 }
 
-fn digit_char(n: u8) -> char
-    requires { n < 16 }
-    ensures { result ≡ digit_of n }
-{
-    if n < 10 {
-        char::from(b'0' + n)
-    } else {
-        char::from(b'a' + (n - 10))
-    }
-}
-
 fn put_byte<W: fmt::Write>(f: &mut fmt::Formatter<W>, b: u8) -> fmt::Result
     ensures { WritesOnOk W.write_str_gives f.old result (byte_shown b) f.new }
 {
-    f.write_char(digit_char(b / 16))?;
-    f.write_char(digit_char(b % 16))
+    write!(f, "{b:02x}")
 }
 
 impl fmt::Display for Hex<'_> {

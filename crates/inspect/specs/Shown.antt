@@ -1,6 +1,6 @@
 -- What is shown of the parts of a text: a line for each field that is there.
-use Rattle.std.specs.Prelude.{ℕ, Bool, true, false, cond, ◌&&◌, List, [], ◌∷◌, ◌++◌, is_some, Some, None, codes, decimal, Option, nat_le}
-use Rattle.std.specs.List.{list_all}
+use Rattle.std.specs.Prelude.{ℕ, Bool, true, false, cond, ◌&&◌, List, [], ◌++◌, is_some, Some, None, codes, decimal, Option, nat_le}
+use Rattle.std.specs.List.{flat_map, list_all}
 use Rattle.hexadecimal.specs.Showing.{shown_bytes}
 use Rattle.update.specs.declared.parts.Address.{Address}
 use Rattle.update.specs.Contents.{Contents}
@@ -26,13 +26,12 @@ value_shown true None = codes "\n  no value: the entry is emptied"
 value_shown false None = []
 value_shown addressed (Some v) = codes "\n  value " ++ shown_bytes v ++ quoted (text_in v)
 
-abbrev pub predecessor_lines : List (List ℕ) → List ℕ
-predecessor_lines [] = []
-predecessor_lines (d ∷ ds) = codes "\n  predecessor " ++ shown_bytes d ++ predecessor_lines ds
+abbrev pub predecessor_line : List ℕ → List ℕ
+predecessor_line digest = codes "\n  predecessor " ++ shown_bytes digest
 
 abbrev pub predecessors_shown : Option (List ℕ) → List ℕ
 predecessors_shown None = []
-predecessors_shown (Some l) = predecessor_lines (digests_in l)
+predecessors_shown (Some l) = flat_map predecessor_line (digests_in l)
 
 abbrev pub seal_shown : Option (List ℕ) → List ℕ
 seal_shown None = []

@@ -4,20 +4,22 @@
 mod fields;
 mod report;
 
-use crate::report::{Report, Tally};
+use crate::report::{Tally, Update};
 use std::io::{BufRead, BufReader};
 
 fn run(rt: &HostRuntime) -> anyhow::Result<()> {
     let heap = rt.alloc();
     let mut tally = Tally::new();
-    let mut number = 0u64;
-    for line in BufReader::new(heap, rt.stdin())?.split(heap, b'\n') {
+    let lines = BufReader::new(heap, rt.stdin())?.split(heap, b'\n');
+    for (number, line) in (1u64..).zip(lines) {
         let line = line?;
-        number = number.saturating_add(1);
         let mut room = vec![in heap; 0u8; line.len() / 2]?;
-        let report = Report::of_line(line.as_slice(), room.as_mut_slice());
+        let report = Update::of_line(line.as_slice(), room.as_mut_slice());
         tally.count(report);
-        println!(rt; "{number}: {report}")?;
+        match report {
+            Ok(update) => println!(rt; "{number}: {update}")?,
+            Err(error) => println!(rt; "{number}: {error}")?,
+        }
     }
     println!(rt; "{tally}")?;
     Ok(())

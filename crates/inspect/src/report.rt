@@ -1,60 +1,86 @@
 // What is shown of a line of input, and how many lines came out which way.
 ghost use Rattle.std.specs.Prelude.{◌≡◌, length, Some};
 ghost use Rattle.hexadecimal.specs.Decoding.{decoding};
-ghost use Rattle.inspect.specs.Reports.{report_shown, line_shown, Reports, ReportsLine, tallied, tally_shown};
+ghost use Rattle.update.specs.Contents.{contents};
+ghost use Rattle.inspect.specs.declared.report.LineError.TheVariants.{Refused, NotHex};
+ghost use Rattle.inspect.specs.Reports.{update_shown, error_shown, report_shown, line_shown, Reads, ReportsLine, tallied, tally_shown};
 
-use crate::fields::put_parts;
+use crate::fields::PartLines;
 use hexadecimal::decode::{HexError, decode};
 use std::fmt;
 use update::parts::Parts;
 use update::refusal::Refusal;
 
+// A text's length, and its parts.
 #[derive(Clone, Copy)]
-pub enum Report<'a> {
-    // The text's length, and its parts.
-    Read(usize, Parts<'a>),
+pub struct Update<'a> {
+    length: usize,
+    parts: Parts<'a>,
+}
+
+// Why a line shows no update.
+#[derive(Clone, Copy)]
+pub enum LineError {
     Refused(Refusal),
     NotHex(HexError),
 }
 
-impl<'a> Report<'a> {
-    // The report of a text.
-    pub fn of(text: &'a [u8]) -> Report<'a>
-        ensures { Reports text.now result }
-    {
-        match Parts::read(text) {
-            Ok(parts) => Report::Read(text.len(), parts),
-            Err(refusal) => Report::Refused(refusal),
-        }
-    }
+impl From<Refusal> for LineError {
+    ghost from_gives = { λ refusal e. e ≡ Refused refusal };
 
-    // The report of a line, whose bytes are written into the room lent for them.
-    pub fn of_line(line: &[u8], room: &'a mut [u8]) -> Report<'a>
-        ensures reports { ReportsLine (decoding (length room.old) line.now) result }
-        ensures shows { report_shown result ≡ line_shown (decoding (length room.old) line.now) }
-    {
-        match decode(line, room) {
-            Ok(count) => Report::of(&room[0..count]),
-            Err(fault) => Report::NotHex(fault),
-        }
+    fn from(refusal: Refusal) -> Self {
+        Self::Refused(refusal)
     }
 }
 
-impl fmt::Display for Report<'_> {
-    ghost output = { λ r. Some (report_shown r) };
+impl From<HexError> for LineError {
+    ghost from_gives = { λ error e. e ≡ NotHex error };
+
+    fn from(error: HexError) -> Self {
+        Self::NotHex(error)
+    }
+}
+
+impl<'a> Update<'a> {
+    pub fn read(text: &'a [u8]) -> Result<Update<'a>, Refusal>
+        ensures { Reads text.now result }
+    {
+        let parts = Parts::read(text)?;
+        let length = text.len();
+        Ok(Update { length, parts })
+    }
+
+    // The update of a line, whose bytes are written into the room lent for them.
+    pub fn of_line(line: &[u8], room: &'a mut [u8]) -> Result<Update<'a>, LineError>
+        ensures reports { ReportsLine (decoding (length room.old) line.now) result }
+        ensures shows { report_shown result ≡ line_shown (decoding (length room.old) line.now) }
+    {
+        let count = decode(line, room)?;
+        Ok(Update::read(&room[0..count])?)
+    }
+}
+
+impl fmt::Display for Update<'_> {
+    ghost output = { λ u. Some (update_shown u.length (contents u.parts)) };
+
+    fn fmt<W: fmt::Write>(&self, f: &mut fmt::Formatter<W>) -> fmt::Result {
+        let length = self.length;
+        let parts = PartLines(self.parts);
+        write!(f, "an update of {length} bytes{parts}")
+    }
+}
+
+impl fmt::Display for LineError {
+    ghost output = { λ e. Some (error_shown e) };
 
     fn fmt<W: fmt::Write>(&self, f: &mut fmt::Formatter<W>) -> fmt::Result {
         match *self {
-            Report::Read(length, parts) => {
-                write!(f, "an update of {length} bytes")?;
-                put_parts(f, parts)
-            }
-            Report::Refused(refusal) => {
+            LineError::Refused(refusal) => {
                 let number = refusal.number();
                 let place = refusal.place();
                 write!(f, "refused {number} at {place}: {refusal}")
             }
-            Report::NotHex(fault) => write!(f, "not hexadecimal: {fault}"),
+            LineError::NotHex(error) => write!(f, "not hexadecimal: {error}"),
         }
     }
 }
@@ -77,13 +103,13 @@ impl Tally {
         }
     }
 
-    pub fn count(&mut self, report: Report)
+    pub fn count(&mut self, report: Result<Update, LineError>)
         ensures { self.new ≡ tallied report.entry self.old }
     {
         match report {
-            Report::Read(_, _) => self.read = self.read.saturating_add(1),
-            Report::Refused(_) => self.refused = self.refused.saturating_add(1),
-            Report::NotHex(_) => self.not_hex = self.not_hex.saturating_add(1),
+            Ok(_) => self.read = self.read.saturating_add(1),
+            Err(LineError::Refused(_)) => self.refused = self.refused.saturating_add(1),
+            Err(LineError::NotHex(_)) => self.not_hex = self.not_hex.saturating_add(1),
         }
     }
 }
@@ -92,9 +118,11 @@ impl fmt::Display for Tally {
     ghost output = { λ t. Some (tally_shown t) };
 
     fn fmt<W: fmt::Write>(&self, f: &mut fmt::Formatter<W>) -> fmt::Result {
-        let read = self.read;
-        let refused = self.refused;
-        let not_hex = self.not_hex;
+        let Tally {
+            read,
+            refused,
+            not_hex,
+        } = *self;
         write!(
             f,
             "{read} read, {refused} refused, {not_hex} not hexadecimal"

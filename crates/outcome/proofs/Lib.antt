@@ -1,3 +1,3 @@
 pub mod Steps
 pub mod Placing
-pub mod Ranking
+pub mod Chunks

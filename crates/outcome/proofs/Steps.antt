@@ -1,5 +1,5 @@
 -- One step of an answer that may be a refusal.
-use Rattle.std.proofs.Common.{◌≡◌, ℕ, Bool, true, false, cond, Ok, Err, Result, refl, subst, arith}
+use Rattle.std.proofs.Common.{◌≡◌, ℕ, Bool, true, false, cond, is_ok, Ok, Err, Result, refl, subst, arith}
 use Rattle.outcome.specs.Outcomes.{bind, Answers}
 
 module _ {E : Type 0} where
@@ -27,3 +27,7 @@ module _ {E : Type 0} where
   -- the same answer, to an equal definition
   pub answers_as : {A B : Type 0} (see : A → B) (r : Result A E) {m n : Result B E} → m ≡ n → Answers see r m → Answers see r n
   answers_as see r e h = subst (Answers see r) e h
+
+  pub answers_ok : {A B : Type 0} (see : A → B) (r : Result A E) (m : Result B E) → Answers see r m → is_ok r ≡ is_ok m
+  answers_ok see (Ok x) m h = rw h refl
+  answers_ok see (Err e) m h = rw h refl

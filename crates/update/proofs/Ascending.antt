@@ -1,5 +1,5 @@
 -- Digests that the reader finds ascending, and digests in order.
-use Rattle.std.proofs.Common.{◌≡◌, ℕ, zero, suc, ◌+◌, ◌-◌, ◌*◌, ◌≤◌, true, false, cond, ltb, List, [], ◌∷◌, length, take, drop, Ok, Err, Ordering, Less, Equal, Greater, sym, refl, ap, ◌∙◌, subst, arith, length-drop}
+use Rattle.std.proofs.Common.{◌≡◌, ℕ, zero, suc, ◌+◌, ◌-◌, ◌*◌, ◌≤◌, Bool, true, false, cond, ltb, List, [], ◌∷◌, length, take, drop, is_ok, Ok, Err, Ordering, Less, Equal, Greater, sym, refl, ap, ◌∙◌, subst, arith, length-drop}
 use Rattle.std.proofs.lemmas.List.{length-take-le, take-take, drop-take}
 use Rattle.std.proofs.lemmas.Bool.{ltb-false, le-ltb}
 use Rattle.std.specs.List.{AllByRecursion}
@@ -8,7 +8,8 @@ use Rattle.std.specs.Ordering.{is_lt}
 use Rattle.std.specs.List.Sorted.{IsStrictlySortedBy}
 use Rattle.update.specs.declared.refusal.Refusal.{Refusal}
 use Rattle.update.specs.declared.refusal.Refusal.TheVariants.{BadPredecessors}
-use Rattle.update.specs.Order.{bytes_rank, below, digests}
+use Rattle.std.specs.Simd.{first_chunks}
+use Rattle.outcome.specs.Order.{bytes_rank, below}
 use Rattle.update.specs.Reading.{cut_at, ascending_at}
 use Rattle.outcome.proofs.Steps.{ok_same, bind_then, pass, stay}
 use Rattle.std.specs.Cmp.Lexicographic.{lists_total}
@@ -56,6 +57,18 @@ ascending_same total total' (suc n) before l l' e w h =
     let r = ascending_same total total' n (take 32 l) (drop 32 l) (drop 32 l') g (omega (arith, length-drop 32 l')) a.rest in
     simp (t, ← f, a.above, r)
 
+one_step : (total total' n : ℕ) (before l : List ℕ) (x y : Bool) → ltb (length l) 32 ≡ x → below before (take 32 l) ≡ y
+    → is_ok (ascending_at total (take 32 l) n (drop 32 l)) ≡ is_ok (ascending_at total' (take 32 l) n (drop 32 l))
+    → is_ok (ascending_at total before (suc n) l) ≡ is_ok (ascending_at total' before (suc n) l)
+one_step total total' n before l true y a b h = simp a refl
+one_step total total' n before l false true a b h = simp (a, b) h
+one_step total total' n before l false false a b h = simp (a, b) refl
+
+-- whether digests are ascending doesn't depend on where the text ends
+pub ascending_anywhere : (total total' n : ℕ) (before l : List ℕ) → is_ok (ascending_at total before n l) ≡ is_ok (ascending_at total' before n l)
+ascending_anywhere total total' zero before l = refl
+ascending_anywhere total total' (suc n) before l = one_step total total' n before l _ _ refl refl (ascending_anywhere total total' n (take 32 l) (drop 32 l))
+
 less : (o : Ordering) → is_lt o ≡ true → o ≡ Less
 less Less h = refl
 less Equal h = absurd (let z : ◌≡◌ {A = ℕ} 0 1 = cc in omega arith)
@@ -66,16 +79,16 @@ above_all a b [] h k = tt
 above_all a b (d ∷ ds) h k = ((lists_total nat_cmp_total).trans a b d h k.0, above_all a b ds h k.1)
 
 -- ascending by neighbours is ascending throughout
-pub sorted_from_ascending : (total n : ℕ) (before l : List ℕ) → ascending_at total before n l ≡ Ok tt → IsStrictlySortedBy bytes_rank (before ∷ digests n l)
+pub sorted_from_ascending : (total n : ℕ) (before l : List ℕ) → ascending_at total before n l ≡ Ok tt → IsStrictlySortedBy bytes_rank (before ∷ first_chunks 32 n l)
 unfolding IsStrictlySortedBy
 sorted_from_ascending total zero before l h = (tt, tt)
 sorted_from_ascending total (suc n) before l h =
     let a = ascending_open total n before l h in
     let b = less (bytes_rank before (take 32 l)) a.above in
     let r = sorted_from_ascending total n (take 32 l) (drop 32 l) a.rest in
-    ((b, above_all before (take 32 l) (digests n (drop 32 l)) b r.0), r)
+    ((b, above_all before (take 32 l) (first_chunks 32 n (drop 32 l)) b r.0), r)
 
-pub ascending_from_sorted : (total n : ℕ) (before l : List ℕ) → 32 * n ≤ length l → IsStrictlySortedBy bytes_rank (before ∷ digests n l) → ascending_at total before n l ≡ Ok tt
+pub ascending_from_sorted : (total n : ℕ) (before l : List ℕ) → 32 * n ≤ length l → IsStrictlySortedBy bytes_rank (before ∷ first_chunks 32 n l) → ascending_at total before n l ≡ Ok tt
 unfolding IsStrictlySortedBy
 ascending_from_sorted total zero before l w s = refl
 ascending_from_sorted total (suc n) before l w s =
@@ -88,7 +101,7 @@ above_empty [] h = absurd (omega arith)
 above_empty (x ∷ d) h = refl
 
 -- the empty string is below every digest
-pub all_above_empty : (n : ℕ) (l : List ℕ) → 32 * n ≤ length l → AllByRecursion (λ d. bytes_rank [] d ≡ Less) (digests n l)
+pub all_above_empty : (n : ℕ) (l : List ℕ) → 32 * n ≤ length l → AllByRecursion (λ d. bytes_rank [] d ≡ Less) (first_chunks 32 n l)
 all_above_empty zero l w = tt
 all_above_empty (suc n) l w =
     (above_empty (take 32 l) (length-take-le 32 l (omega arith)), all_above_empty n (drop 32 l) (omega (arith, length-drop 32 l)))

@@ -3,7 +3,7 @@ use Rattle.std.proofs.Common.{◌≡◌, ℕ, zero, suc, ◌-◌, ◌*◌, ◌�
 use Rattle.update.specs.declared.refusal.Refusal.{Refusal}
 use Rattle.update.specs.declared.refusal.Refusal.TheVariants.{BadPredecessors, BadValueLength}
 use Rattle.update.specs.Contents.{Contents}
-use Rattle.update.specs.Order.{below}
+use Rattle.outcome.specs.Order.{below}
 use Rattle.update.specs.Reading.{Read, cut_at, count_at, author_at, address_at, ascending_at, predecessors_at, value_at, seal_at, optional, stands, map_allowed, end_at, fields_at, reads}
 use Rattle.update.specs.Refusals.{number_of, place_of}
 use Rattle.outcome.specs.Outcomes.{bind}

@@ -5,3 +5,5 @@ pub mod Back
 pub mod Forth
 pub mod Texts
 pub mod Worked
+pub mod Written
+pub mod Fields

@@ -4,7 +4,7 @@ use Rattle.std.proofs.lemmas.Bool.{eq-eqb, le-ltb}
 use Rattle.std.proofs.lemmas.List.{take_at, drop_at, take_all}
 use Rattle.update.specs.declared.refusal.Refusal.TheVariants.{BadLength, BadMap, BadPredecessors, BadValueLength}
 use Rattle.update.specs.Examples.{Refuses, Examples}
-use Rattle.update.specs.Order.{below}
+use Rattle.outcome.specs.Order.{below}
 use Rattle.update.proofs.Ascending.{above_empty}
 
 not_below_itself : (d : List ℕ) → below d d ≡ false

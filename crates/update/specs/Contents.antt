@@ -1,8 +1,8 @@
 -- What the parts of a text hold, without the borrowing.
-use Rattle.std.specs.Prelude.{ℕ, List, Some, None, Option}
+use Rattle.std.specs.Prelude.{ℕ, List, Option}
+use Rattle.std.specs.Borrow.{Bor}
+use Rattle.std.specs.Option.{option_map}
 use Rattle.update.specs.declared.parts.Address.{Address}
-use Rattle.update.specs.declared.parts.Field.{Field}
-use Rattle.update.specs.declared.parts.Field.TheVariants.{Absent, Present}
 use Rattle.update.specs.declared.parts.Parts.{Parts}
 
 pub record Contents : Type 0 where
@@ -12,9 +12,8 @@ pub record Contents : Type 0 where
   pub value : Option (List ℕ)
   pub seal : Option (List ℕ)
 
-abbrev pub borrowed : Field → Option (List ℕ)
-borrowed Absent = None
-borrowed (Present bytes) = Some bytes.now
+abbrev pub borrowed : Option (Bor (List ℕ)) → Option (List ℕ)
+borrowed = option_map (λ bytes. bytes.now)
 
 abbrev pub contents : Parts → Contents
 contents p = record {

@@ -1,9 +1,20 @@
 -- How a text is laid out: a map byte, then the fields whose bit stands in it, in the order of their bits.
 use Rattle.std.specs.Prelude.{◌≡◌, ℕ, ◌+◌, ◌/◌, ◌%◌, ◌^◌, ◌<◌, ◌≤◌, true, cond, not, ◌||◌, List, [], ◌∷◌, ◌++◌, length, is_some, IfSome, Some, None, Option}
 use Rattle.std.specs.List.Sorted.{IsStrictlySortedBy}
+use Rattle.update.specs.declared.layout.Field.{Field}
+use Rattle.update.specs.declared.layout.Field.TheVariants.{Author, Predecessors, Value, Seal}
+use Rattle.update.specs.declared.layout.Field.TheVariants.{Address as AddressBit}
 use Rattle.update.specs.declared.parts.Address.{Address}
 use Rattle.update.specs.Contents.{Contents}
-use Rattle.update.specs.Order.{bytes_rank, digests_in}
+use Rattle.outcome.specs.Order.{bytes_rank}
+use Rattle.update.specs.Order.{digests_in}
+
+abbrev pub bit_of : Field → ℕ
+bit_of Author = 1
+bit_of AddressBit = 2
+bit_of Predecessors = 4
+bit_of Value = 8
+bit_of Seal = 16
 
 abbrev pub map_of : Contents → ℕ
 map_of p =

@@ -3,6 +3,8 @@ pub mod Order
 pub mod Contents
 pub mod Layout
 pub mod Reading
+pub mod Reader
 pub mod Writing
+pub mod Writer
 pub mod Laws
 pub mod Examples

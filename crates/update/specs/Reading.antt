@@ -5,7 +5,7 @@ use Rattle.update.specs.declared.parts.Address.{Address}
 use Rattle.update.specs.declared.refusal.Refusal.{Refusal}
 use Rattle.update.specs.declared.refusal.Refusal.TheVariants.{BadLength, BadMap, BadPredecessors, BadValueLength}
 use Rattle.update.specs.Contents.{Contents}
-use Rattle.update.specs.Order.{below}
+use Rattle.outcome.specs.Order.{below}
 use Rattle.outcome.specs.Outcomes.{bind}
 
 -- a field at the front, and what follows it

@@ -11,15 +11,15 @@ pub(crate) const MAX_PREDECESSORS: u8 = 8;
 
 pub(crate) const MAX_VALUE_LEN: u8 = 64;
 
-pub(crate) const AUTHOR: u8 = 1;
-
-pub(crate) const ADDRESS: u8 = 2;
-
-pub(crate) const PREDECESSORS: u8 = 4;
-
-pub(crate) const VALUE: u8 = 8;
-
-pub(crate) const SEAL: u8 = 16;
+// The fields of a text, each with the bit of the map that says that it is there.
+#[derive(Clone, Copy)]
+pub(crate) enum Field {
+    Author = 1,
+    Address = 2,
+    Predecessors = 4,
+    Value = 8,
+    Seal = 16,
+}
 
 // The lowest of the bits that are always clear.
 pub(crate) const UNUSED: u8 = 32;

@@ -1,57 +1,24 @@
 // The reader of update texts. The order of its checks decides which refusal and which place is
 // answered: the map, then each field in turn, then bytes left over.
-//
-// Each field is read from the front of `rest` and answered with what follows it. `total` is the length
-// of the whole text: the place of what is left in it is `total` less its length, and a text that ends
-// inside a field is refused at `total`.
-ghost use Rattle.std.specs.Prelude.{◌≡◌, []};
-ghost use Rattle.update.specs.Contents.{borrowed, contents};
+ghost use Rattle.std.specs.Prelude.{◌≡◌, ◌-◌, ◌≤◌, length, []};
+ghost use Rattle.update.specs.Contents.{contents};
 ghost use Rattle.update.specs.Laws.{AcceptsTexts};
-ghost use Rattle.update.specs.Order.{below};
-ghost use Rattle.update.specs.Reading.{cut_at, count_at, author_at, address_at, ascending_at, predecessors_at, value_at, seal_at, optional, stands, map_allowed, end_at, fields_at, reads};
+ghost use Rattle.outcome.specs.Order.{below};
+ghost use Rattle.update.specs.Layout.{bit_of};
+ghost use Rattle.update.specs.Reading.{stands, map_allowed, fields_at, reads};
 ghost use Rattle.outcome.specs.Outcomes.{Answers};
 
-use crate::layout::{
-    ADDRESS, AUTHOR, DIGEST_LEN, MAX_PREDECESSORS, MAX_VALUE_LEN, PREDECESSORS, SEAL, SEAL_LEN,
-    UNUSED, VALUE,
-};
-use crate::parts::{Address, Field, Parts};
+use crate::layout::{DIGEST_LEN, Field, MAX_PREDECESSORS, MAX_VALUE_LEN, SEAL_LEN, UNUSED};
+use crate::parts::{Address, Parts};
 use crate::refusal::Refusal;
 
-fn cut<'a>(rest: &'a [u8], n: usize, total: usize) -> Result<(&'a [u8], &'a [u8]), Refusal>
-    ensures { Answers (λ p. (p.0.now, p.1.now)) result (cut_at total n rest.now) }
-{
-    if rest.len() < n {
-        return Err(Refusal::BadLength(total));
-    }
-    Ok(rest.split_at(n))
-}
-
-// A byte from 1 to `most`, else `fault`.
-fn read_count<'a>(
+// What is left to read of a text, and the length of the whole: a place in the text is the
+// difference, and a text that ends inside a field is refused at its end.
+#[derive(Clone, Copy)]
+pub(crate) struct Reader<'a> {
     rest: &'a [u8],
-    most: u8,
-    fault: Refusal,
     total: usize,
-) -> Result<(u8, &'a [u8]), Refusal>
-    ensures { Answers (λ p. (p.0, p.1.now)) result (count_at total most fault rest.now) }
-{
-    let [count, rest @ ..] = rest else {
-        return Err(Refusal::BadLength(total));
-    };
-    if *count < 1 || *count > most {
-        return Err(fault);
-    }
-    Ok((*count, rest))
-}
-
-fn read_author<'a>(rest: &'a [u8], total: usize) -> Result<(u16, &'a [u8]), Refusal>
-    ensures { Answers (λ p. (p.0, p.1.now)) result (author_at total rest.now) }
-{
-    let [high, low, rest @ ..] = rest else {
-        return Err(Refusal::BadLength(total));
-    };
-    Ok((u16::from_be_bytes([*high, *low]), rest))
+    ghost inside: { length rest.now ≤ total },
 }
 
 fn is_below(a: &[u8], b: &[u8]) -> bool
@@ -60,131 +27,169 @@ fn is_below(a: &[u8], b: &[u8]) -> bool
     a < b
 }
 
-// The digests at the front: each whole, then above the one before it.
-pub(crate) fn check_digests(mut rest: &[u8], count: u8, total: usize) -> Result<(), Refusal>
-    ensures { Answers (λ _. tt) result (ascending_at total [] count rest.now) }
-{
-    let mut before: &[u8] = &[];
-    for _k in 0..count {
-        let place = total.saturating_sub(rest.len());
-        let (digest, after) = cut(rest, DIGEST_LEN, total)?;
-        if !is_below(before, digest) {
-            return Err(Refusal::BadPredecessors(place));
+impl<'a> Reader<'a> {
+    ghost use Rattle.update.specs.Reading.{cut_at, count_at, author_at, address_at, ascending_at, predecessors_at, value_at, seal_at, end_at};
+    ghost use Rattle.update.specs.Reader.{Reads, ReadsIf};
+
+    pub(crate) fn new(text: &'a [u8]) -> Reader<'a>
+        ensures rest { result.rest.now ≡ text.now }
+        ensures total { result.total ≡ length text.now }
+    {
+        Reader {
+            rest: text,
+            total: text.len(),
         }
-        before = digest;
-        rest = after;
     }
-    Ok(())
+
+    fn place(&self) -> usize
+        ensures { result ≡ self.now.total - length self.now.rest.now }
+    {
+        self.total - self.rest.len()
+    }
+
+    // The next `N` bytes.
+    fn array<const N: usize>(&mut self) -> Result<&'a [u8; N], Refusal>
+        ensures { Reads (λ x. x.now) (λ total. cut_at total N) self.old result self.new }
+    {
+        let (front, rest) = self
+            .rest
+            .split_first_chunk::<N>()
+            .ok_or(Refusal::BadLength(self.total))?;
+        self.rest = rest;
+        Ok(front)
+    }
+
+    // The next `n` bytes.
+    fn slice(&mut self, n: usize) -> Result<&'a [u8], Refusal>
+        ensures { Reads (λ x. x.now) (λ total. cut_at total n) self.old result self.new }
+    {
+        let (front, rest) = self
+            .rest
+            .split_at_checked(n)
+            .ok_or(Refusal::BadLength(self.total))?;
+        self.rest = rest;
+        Ok(front)
+    }
+
+    // A byte from 1 to `most`, else `fault`.
+    fn count(&mut self, most: u8, fault: Refusal) -> Result<u8, Refusal>
+        ensures { Reads (λ x. x) (λ total. count_at total most fault) self.old result self.new }
+    {
+        let [count] = *self.array::<1>()?;
+        if !(1..=most).contains(&count) {
+            return Err(fault);
+        }
+        Ok(count)
+    }
+
+    fn author(&mut self) -> Result<u16, Refusal>
+        ensures { Reads (λ x. x) author_at self.old result self.new }
+    {
+        let [high, low, rest @ ..] = self.rest else {
+            return Err(Refusal::BadLength(self.total));
+        };
+        self.rest = rest;
+        Ok(u16::from_be_bytes([*high, *low]))
+    }
+
+    fn address(&mut self) -> Result<Address, Refusal>
+        ensures { Reads (λ x. x) address_at self.old result self.new }
+    {
+        let [table, a, b, c, d, column] = *self.array::<6>()?;
+        let row = u32::from_be_bytes([a, b, c, d]);
+        Ok(Address { table, row, column })
+    }
+
+    // Digests, each whole, then above the one before it. Nothing is taken.
+    pub(crate) fn check_digests(mut self, count: u8) -> Result<(), Refusal>
+        ensures { Answers (λ _. tt) result (ascending_at self.entry.total [] count self.entry.rest.now) }
+    {
+        let mut before: &[u8] = &[];
+        for _k in 0..count {
+            let place = self.place();
+            let digest = self.array::<DIGEST_LEN>()?;
+            if !is_below(before, digest) {
+                return Err(Refusal::BadPredecessors(place));
+            }
+            before = digest;
+        }
+        Ok(())
+    }
+
+    fn predecessors(&mut self) -> Result<&'a [u8], Refusal>
+        ensures { Reads (λ x. x.now) predecessors_at self.old result self.new }
+    {
+        let fault = Refusal::BadPredecessors(self.place());
+        let count = self.count(MAX_PREDECESSORS, fault)?;
+        self.check_digests(count)?;
+        self.slice(DIGEST_LEN * usize::from(count))
+    }
+
+    fn value(&mut self) -> Result<&'a [u8], Refusal>
+        ensures { Reads (λ x. x.now) value_at self.old result self.new }
+    {
+        let fault = Refusal::BadValueLength(self.place());
+        let count = self.count(MAX_VALUE_LEN, fault)?;
+        self.slice(usize::from(count))
+    }
+
+    fn seal(&mut self) -> Result<&'a [u8], Refusal>
+        ensures { Reads (λ x. x.now) seal_at self.old result self.new }
+    {
+        self.slice(SEAL_LEN)
+    }
+
+    // A field that is there only if its bit stands: there is no value before it is read.
+    fn optional<T, F>(&mut self, present: bool, read: F) -> Result<Option<T>, Refusal>
+    where
+        F: FnOnce(&mut Reader<'a>) -> Result<T, Refusal>,
+        requires { F.IsAlwaysCallable read }
+        ensures { ReadsIf F.FnOnce read present self.old result self.new }
+    {
+        if !present {
+            return Ok(None);
+        }
+        read(self).map(Some)
+    }
+
+    fn end(self) -> Result<(), Refusal>
+        ensures { Answers (λ _. tt) result (end_at self.entry.total self.entry.rest.now) }
+    {
+        if !self.rest.is_empty() {
+            return Err(Refusal::BadLength(self.place()));
+        }
+        Ok(())
+    }
+
+    fn fields(mut self, map: u8) -> Result<Parts<'a>, Refusal>
+        ensures { Answers contents result (fields_at self.entry.total map self.entry.rest.now) }
+    {
+        let author = self.author()?;
+        let address = self.optional(has(map, Field::Address), Reader::address)?;
+        let predecessors = self.optional(has(map, Field::Predecessors), Reader::predecessors)?;
+        let value = self.optional(has(map, Field::Value), Reader::value)?;
+        let seal = self.optional(has(map, Field::Seal), Reader::seal)?;
+        self.end()?;
+        Ok(Parts {
+            author,
+            address,
+            predecessors,
+            value,
+            seal,
+        })
+    }
 }
 
-fn read_end(rest: &[u8], total: usize) -> Result<(), Refusal>
-    ensures { Answers (λ _. tt) result (end_at total rest.now) }
+fn has(map: u8, field: Field) -> bool
+    ensures { result ≡ stands map (bit_of field) }
 {
-    if !rest.is_empty() {
-        return Err(Refusal::BadLength(total.saturating_sub(rest.len())));
-    }
-    Ok(())
-}
-
-fn has_bit(map: u8, bit: u8) -> bool
-    ensures { result ≡ stands map bit }
-{
-    map & bit != 0
+    map & field as u8 != 0
 }
 
 fn is_allowed(map: u8) -> bool
     ensures { result ≡ map_allowed map }
 {
-    map < UNUSED && has_bit(map, AUTHOR) && (!has_bit(map, VALUE) || has_bit(map, ADDRESS))
-}
-
-fn read_address<'a>(
-    present: bool,
-    rest: &'a [u8],
-    total: usize,
-) -> Result<(Option<Address>, &'a [u8]), Refusal>
-    ensures { Answers (λ p. (p.0, p.1.now)) result (optional present (address_at total rest.now) rest.now) }
-{
-    if !present {
-        return Ok((None, rest));
-    }
-    let [table, a, b, c, d, column, rest @ ..] = rest else {
-        return Err(Refusal::BadLength(total));
-    };
-    let row = u32::from_be_bytes([*a, *b, *c, *d]);
-    Ok((
-        Some(Address {
-            table: *table,
-            row,
-            column: *column,
-        }),
-        rest,
-    ))
-}
-
-fn read_predecessors<'a>(
-    present: bool,
-    rest: &'a [u8],
-    total: usize,
-) -> Result<(Field<'a>, &'a [u8]), Refusal>
-    ensures { Answers (λ p. (borrowed p.0, p.1.now)) result (optional present (predecessors_at total rest.now) rest.now) }
-{
-    if !present {
-        return Ok((Field::Absent, rest));
-    }
-    let fault = Refusal::BadPredecessors(total.saturating_sub(rest.len()));
-    let (count, rest) = read_count(rest, MAX_PREDECESSORS, fault, total)?;
-    check_digests(rest, count, total)?;
-    let (digests, rest) = cut(rest, DIGEST_LEN * count as usize, total)?;
-    Ok((Field::Present(digests), rest))
-}
-
-fn read_value<'a>(
-    present: bool,
-    rest: &'a [u8],
-    total: usize,
-) -> Result<(Field<'a>, &'a [u8]), Refusal>
-    ensures { Answers (λ p. (borrowed p.0, p.1.now)) result (optional present (value_at total rest.now) rest.now) }
-{
-    if !present {
-        return Ok((Field::Absent, rest));
-    }
-    let fault = Refusal::BadValueLength(total.saturating_sub(rest.len()));
-    let (count, rest) = read_count(rest, MAX_VALUE_LEN, fault, total)?;
-    let (value, rest) = cut(rest, count as usize, total)?;
-    Ok((Field::Present(value), rest))
-}
-
-fn read_seal<'a>(
-    present: bool,
-    rest: &'a [u8],
-    total: usize,
-) -> Result<(Field<'a>, &'a [u8]), Refusal>
-    ensures { Answers (λ p. (borrowed p.0, p.1.now)) result (optional present (seal_at total rest.now) rest.now) }
-{
-    if !present {
-        return Ok((Field::Absent, rest));
-    }
-    let (seal, rest) = cut(rest, SEAL_LEN, total)?;
-    Ok((Field::Present(seal), rest))
-}
-
-fn read_fields<'a>(map: u8, rest: &'a [u8], total: usize) -> Result<Parts<'a>, Refusal>
-    ensures { Answers contents result (fields_at total map rest.now) }
-{
-    let (author, rest) = read_author(rest, total)?;
-    let (address, rest) = read_address(has_bit(map, ADDRESS), rest, total)?;
-    let (predecessors, rest) = read_predecessors(has_bit(map, PREDECESSORS), rest, total)?;
-    let (value, rest) = read_value(has_bit(map, VALUE), rest, total)?;
-    let (seal, rest) = read_seal(has_bit(map, SEAL), rest, total)?;
-    read_end(rest, total)?;
-    Ok(Parts {
-        author,
-        address,
-        predecessors,
-        value,
-        seal,
-    })
+    map < UNUSED && has(map, Field::Author) && (!has(map, Field::Value) || has(map, Field::Address))
 }
 
 impl<'a> Parts<'a> {
@@ -199,6 +204,7 @@ impl<'a> Parts<'a> {
         if !is_allowed(*map) {
             return Err(Refusal::BadMap);
         }
-        read_fields(*map, rest, text.len())
+        let total = text.len();
+        Reader { rest, total }.fields(*map)
     }
 }

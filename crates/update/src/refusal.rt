@@ -5,7 +5,7 @@ ghost use Rattle.update.specs.Refusals.{number_of, place_of, cause_of};
 use std::fmt;
 
 // A refusal leaves everything as it was. Those about a text's bytes hold the place, a byte index.
-#[derive(Clone, Copy, Debug)]
+#[derive(Clone, Copy, PartialEq, Eq, Debug)]
 pub enum Refusal {
     BadLength(usize),
     BadMap,
@@ -27,7 +27,7 @@ pub enum Refusal {
 }
 
 impl Refusal {
-    // The number by which users know the refusal.
+    // The number by which users know the refusal; `docs/REFUSALS.md` fixes it.
     pub fn number(self) -> u8
         ensures { result ≡ number_of self }
     {
@@ -52,7 +52,7 @@ impl Refusal {
         }
     }
 
-    // The byte index that the refusal names, 0 where it names none.
+    // The byte index that the refusal names, 0 where it names none: users are always told a place.
     pub fn place(self) -> usize
         ensures { result ≡ place_of self }
     {

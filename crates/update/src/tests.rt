@@ -1,7 +1,7 @@
 // The longest text, and what lies just past each limit.
 use crate::MAX_TEXT_LEN;
 use crate::examples::worked_example;
-use crate::parts::{Address, Field, Parts};
+use crate::parts::{Address, Parts};
 use crate::refusal::Refusal;
 use std::process::Abort;
 use std::test::Fail;
@@ -9,8 +9,8 @@ use std::test::Fail;
 // Digests of 32 bytes, ascending.
 fn digests() -> [u8; 288] {
     let mut all = [0u8; 288];
-    for i in 0..288 {
-        all[i] = (i / 32) as u8;
+    for (i, byte) in all.iter_mut().enumerate() {
+        *byte = (i / 32) as u8;
     }
     all
 }
@@ -23,25 +23,16 @@ fn full<'a>(digests: &'a [u8], value: &'a [u8], seal: &'a [u8]) -> Parts<'a> {
             row: 0x04050607,
             column: 8,
         }),
-        predecessors: Field::Present(digests),
-        value: Field::Present(value),
-        seal: Field::Present(seal),
+        predecessors: Some(digests),
+        value: Some(value),
+        seal: Some(seal),
     }
 }
 
-fn bytes_of(field: Field) -> &[u8] {
-    match field {
-        Field::Present(bytes) => bytes,
-        Field::Absent => &[],
-    }
-}
-
-// The number and place of a refusal, or zeros.
-fn told<T: Drop>(answer: Result<T, Refusal>) -> (u8, usize) {
-    match answer {
-        Ok(_) => (0, 0),
-        Err(refusal) => (refusal.number(), refusal.place()),
-    }
+// The number and place of a refusal.
+fn told<T: Drop>(answer: Result<T, Refusal>) -> Option<(u8, usize)> {
+    let refusal = answer.err()?;
+    Some((refusal.number(), refusal.place()))
 }
 
 #[test]
@@ -57,8 +48,8 @@ fn reads_the_worked_example(rt: HostRuntime) -> Result<(), Fail> {
                 column: 1,
             })
     );
-    assert!(rt; bytes_of(parts.value) == b"27".as_slice());
-    assert!(rt; !parts.predecessors.is_present() && !parts.seal.is_present());
+    assert!(rt; parts.value == Some(b"27".as_slice()));
+    assert!(rt; parts.predecessors.is_none() && parts.seal.is_none());
     Ok(())
 }
 
@@ -71,15 +62,15 @@ fn writes_the_longest_text(rt: HostRuntime) -> Result<(), Fail> {
     assert!(rt; out[0] == 0x1f && out[1] == 1 && out[2] == 2 && out[3] == 3 && out[4] == 4);
     assert!(rt; out[362] == 0xab && out[363] == 0xee && out[399] == 0xee);
     let parts = Parts::read(&out[0..363])?;
-    assert!(rt; bytes_of(parts.predecessors) == &digests[0..256]);
-    assert_eq!(rt; told(Parts::read(&out[0..362])), (1, 362));
-    assert_eq!(rt; told(Parts::read(&out[0..364])), (1, 363));
+    assert!(rt; parts.predecessors == Some(&digests[0..256]));
+    assert_eq!(rt; told(Parts::read(&out[0..362])), Some((1, 362)));
+    assert_eq!(rt; told(Parts::read(&out[0..364])), Some((1, 363)));
     Ok(())
 }
 
 // The writer refuses these parts with that number, at place 0.
 fn refused(rt: &impl Abort, parts: Parts, number: u8, out: &mut [u8]) {
-    assert_eq!(rt; told(parts.write(out)), (number, 0));
+    assert_eq!(rt; told(parts.write(out)), Some((number, 0)));
 }
 
 #[test]

@@ -1,129 +1,133 @@
 // The writer of update texts.
-ghost use Rattle.std.specs.Prelude.{◌≡◌, ◌+◌, ◌/◌, ◌<◌, ◌≤◌, length, if◌then◌else◌, Ok};
+ghost use Rattle.std.specs.Prelude.{◌≡◌, ◌+◌, ◌/◌, ◌<◌, ◌≤◌, length, if◌then◌else◌, Ok, is_ok, []};
 ghost use Rattle.update.specs.Contents.{borrowed, contents};
 ghost use Rattle.update.specs.Laws.{WritesTexts};
-ghost use Rattle.update.specs.Layout.{map_of, address_bytes, counted_bytes, plain_bytes, layout};
-ghost use Rattle.update.specs.Writing.{every, good_predecessors, good_value, good_seal, faults, writing};
+ghost use Rattle.update.specs.Layout.{bit_of, map_of, address_bytes, counted_bytes, plain_bytes, layout};
+ghost use Rattle.update.specs.Reading.{ascending_at};
+ghost use Rattle.update.specs.Writer.{HasRoom, Wrote};
+ghost use Rattle.update.specs.Writing.{good_predecessors, good_value, good_seal, faults, writing};
 ghost use Rattle.outcome.specs.Buffers.{placed, after, size};
 
-use crate::layout::{
-    ADDRESS, AUTHOR, DIGEST_LEN, MAX_PREDECESSORS, MAX_TEXT_LEN, MAX_VALUE_LEN, PREDECESSORS, SEAL,
-    SEAL_LEN, VALUE,
-};
-use crate::parts::{Address, Field, Parts};
-use crate::reader::check_digests;
+use crate::layout::{DIGEST_LEN, Field, MAX_PREDECESSORS, MAX_TEXT_LEN, MAX_VALUE_LEN, SEAL_LEN};
+use crate::parts::{Address, Parts};
+use crate::reader::Reader;
 use crate::refusal::Refusal;
 
-fn are_predecessors(list: Field) -> bool
-    ensures { result ≡ every (borrowed list.entry) good_predecessors }
+fn are_ascending(digests: &[u8], count: u8) -> bool
+    ensures { result ≡ is_ok (ascending_at 0 [] count digests.now) }
 {
-    let Field::Present(list) = list else {
-        return true;
+    Reader::new(digests).check_digests(count).is_ok()
+}
+
+fn are_predecessors(list: &[u8]) -> bool
+    ensures { result ≡ good_predecessors list.now }
+{
+    let Ok(count) = u8::try_from(list.len() / DIGEST_LEN) else {
+        return false;
     };
-    let count = list.len() / DIGEST_LEN;
     list.len() % DIGEST_LEN == 0
-        && 1 <= count
-        && count <= MAX_PREDECESSORS as usize
-        && check_digests(list, count as u8, 0).is_ok()
+        && (1..=MAX_PREDECESSORS).contains(&count)
+        && are_ascending(list, count)
 }
 
-fn is_value(value: Field) -> bool
-    ensures { result ≡ every (borrowed value.entry) good_value }
+fn is_value(value: &[u8]) -> bool
+    ensures { result ≡ good_value value.now }
 {
-    let Field::Present(value) = value else {
-        return true;
-    };
-    1 <= value.len() && value.len() <= MAX_VALUE_LEN as usize
+    (1..=usize::from(MAX_VALUE_LEN)).contains(&value.len())
 }
 
-fn is_seal(seal: Field) -> bool
-    ensures { result ≡ every (borrowed seal.entry) good_seal }
+fn is_seal(seal: &[u8]) -> bool
+    ensures { result ≡ good_seal seal.now }
 {
-    let Field::Present(seal) = seal else {
-        return true;
-    };
     seal.len() == SEAL_LEN
 }
 
 fn check_parts(parts: Parts) -> Result<(), Refusal>
     ensures { result ≡ faults (contents parts.entry) }
 {
-    if parts.address.is_none() && parts.value.is_present() {
+    if parts.address.is_none() && parts.value.is_some() {
         return Err(Refusal::BadMap);
     }
-    if !are_predecessors(parts.predecessors) {
+    if !parts.predecessors.is_none_or(are_predecessors) {
         return Err(Refusal::BadPredecessors(0));
     }
-    if !is_value(parts.value) {
+    if !parts.value.is_none_or(is_value) {
         return Err(Refusal::BadValueLength(0));
     }
-    if !is_seal(parts.seal) {
+    if !parts.seal.is_none_or(is_seal) {
         return Err(Refusal::BadMap);
     }
     Ok(())
 }
 
-fn flag(present: bool, bit: u8) -> u8
-    ensures { result ≡ (if present then bit else 0) }
+fn flag(present: bool, field: Field) -> u8
+    ensures { result ≡ (if present then bit_of field else 0) }
 {
-    if present { bit } else { 0 }
+    if present { field as u8 } else { 0 }
 }
 
 fn map_byte(parts: Parts) -> u8
     ensures { result ≡ map_of (contents parts.entry) }
 {
-    AUTHOR
-        + flag(parts.address.is_some(), ADDRESS)
-        + flag(parts.predecessors.is_present(), PREDECESSORS)
-        + flag(parts.value.is_present(), VALUE)
-        + flag(parts.seal.is_present(), SEAL)
+    Field::Author as u8
+        + flag(parts.address.is_some(), Field::Address)
+        + flag(parts.predecessors.is_some(), Field::Predecessors)
+        + flag(parts.value.is_some(), Field::Value)
+        + flag(parts.seal.is_some(), Field::Seal)
 }
 
-// Each `put` writes a part at `at`, and answers where it ends.
-fn put(out: &mut [u8], at: usize, part: &[u8]) -> usize
-    requires { at + length part.now ≤ length out.old }
-    ensures end { result ≡ at + length part.now }
-    ensures bytes { out.new ≡ placed at part.now out.old }
-{
-    out[at..at + part.len()].copy_from_slice(part);
-    at + part.len()
+// The caller's buffer, and how much of it is written: nothing is allocated for a text.
+#[derive(Drop)]
+struct Writer<'a> {
+    out: &'a mut [u8],
+    end: usize,
 }
 
-fn put_address(out: &mut [u8], at: usize, address: Option<Address>) -> usize
-    requires { at + length (address_bytes address) ≤ length out.old }
-    ensures end { result ≡ at + length (address_bytes address) }
-    ensures bytes { out.new ≡ placed at (address_bytes address) out.old }
-{
-    let Some(a) = address else {
-        return at;
-    };
-    let [w, x, y, z] = a.row.to_be_bytes();
-    put(out, at, &[a.table, w, x, y, z, a.column])
-}
+impl Writer<'_> {
+    fn put(&mut self, part: &[u8])
+        requires { HasRoom self.old part.now }
+        ensures { Wrote self.old part.now self.new }
+    {
+        let out = &mut *self.out;
+        out[self.end..self.end + part.len()].copy_from_slice(part);
+        self.end += part.len();
+    }
 
-fn put_plain(out: &mut [u8], at: usize, part: Field) -> usize
-    requires { at + length (plain_bytes (borrowed part)) ≤ length out.old }
-    ensures end { result ≡ at + length (plain_bytes (borrowed part.entry)) }
-    ensures bytes { out.new ≡ placed at (plain_bytes (borrowed part.entry)) out.old }
-{
-    let Field::Present(part) = part else {
-        return at;
-    };
-    put(out, at, part)
-}
+    fn put_address(&mut self, address: Option<Address>)
+        requires { HasRoom self.old (address_bytes address) }
+        ensures { Wrote self.old (address_bytes address) self.new }
+    {
+        if let Some(Address { table, row, column }) = address {
+            let [a, b, c, d] = row.to_be_bytes();
+            self.put(&[table, a, b, c, d, column]);
+        }
+    }
 
-fn put_counted(out: &mut [u8], at: usize, unit: usize, part: Field) -> usize
-    requires some_unit { 0 < unit }
-    requires few_units { length (plain_bytes (borrowed part)) / unit < 256 }
-    requires room { at + length (counted_bytes unit (borrowed part)) ≤ length out.old }
-    ensures end { result ≡ at + length (counted_bytes unit (borrowed part.entry)) }
-    ensures bytes { out.new ≡ placed at (counted_bytes unit (borrowed part.entry)) out.old }
-{
-    let Field::Present(part) = part else {
-        return at;
-    };
-    let next = put(out, at, &[(part.len() / unit) as u8]);
-    put(out, next, part)
+    // A field behind a byte that counts its units.
+    fn put_counted(&mut self, unit: usize, field: Option<&[u8]>)
+        requires some_unit { 0 < unit }
+        requires few_units { length (plain_bytes (borrowed field)) / unit < 256 }
+        requires room { HasRoom self.old (counted_bytes unit (borrowed field)) }
+        ensures { Wrote self.old (counted_bytes unit (borrowed field.entry)) self.new }
+    {
+        if let Some(field) = field {
+            self.put(&[(field.len() / unit) as u8]);
+            self.put(field);
+        }
+    }
+
+    fn put_parts(&mut self, parts: Parts)
+        requires no_fault { faults (contents parts) ≡ Ok tt }
+        requires room { HasRoom self.old (layout (contents parts)) }
+        ensures { Wrote self.old (layout (contents parts.entry)) self.new }
+    {
+        self.put(&[map_byte(parts)]);
+        self.put(&parts.author.to_be_bytes());
+        self.put_address(parts.address);
+        self.put_counted(DIGEST_LEN, parts.predecessors);
+        self.put_counted(1, parts.value);
+        self.put(parts.seal.unwrap_or(&[]));
+    }
 }
 
 fn put_text(out: &mut [u8], parts: Parts) -> usize
@@ -132,12 +136,9 @@ fn put_text(out: &mut [u8], parts: Parts) -> usize
     ensures end { result ≡ length (layout (contents parts.entry)) }
     ensures bytes { out.new ≡ placed 0 (layout (contents parts.entry)) out.old }
 {
-    let a = put(out, 0, &[map_byte(parts)]);
-    let b = put(out, a, &parts.author.to_be_bytes());
-    let d = put_address(out, b, parts.address);
-    let e = put_counted(out, d, DIGEST_LEN, parts.predecessors);
-    let f = put_counted(out, e, 1, parts.value);
-    put_plain(out, f, parts.seal)
+    let mut text = Writer { out, end: 0 };
+    text.put_parts(parts);
+    text.end
 }
 
 impl Parts<'_> {

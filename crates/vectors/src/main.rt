@@ -44,16 +44,19 @@ fn run_lengths(rt: &HostRuntime) -> anyhow::Result<()> {
 
 // The test cases 1 to 4 of RFC 4231. The key of the last is the bytes 1 to 25.
 fn run_seals(rt: &HostRuntime) -> anyhow::Result<()> {
-    let keys = [
-        zero_filled(&[0x0b; 20]),
-        zero_filled(b"Jefe"),
-        zero_filled(&[0xaa; 20]),
-        zero_filled(&pattern()[1..26]),
+    let cases: [(&str, [u8; 32], &[u8]); 4] = [
+        ("seal 1", zero_filled(&[0x0b; 20]), b"Hi There"),
+        (
+            "seal 2",
+            zero_filled(b"Jefe"),
+            b"what do ya want for nothing?",
+        ),
+        ("seal 3", zero_filled(&[0xaa; 20]), &[0xdd; 50]),
+        ("seal 4", zero_filled(&pattern()[1..26]), &[0xcd; 50]),
     ];
-    rt.println(Vector::of_seal("seal 1", &keys[0], b"Hi There"))?;
-    rt.println(Vector::of_seal("seal 2", &keys[1], b"what do ya want for nothing?"))?;
-    rt.println(Vector::of_seal("seal 3", &keys[2], &[0xdd; 50]))?;
-    rt.println(Vector::of_seal("seal 4", &keys[3], &[0xcd; 50]))?;
+    for (label, key, message) in cases {
+        rt.println(Vector::of_seal(label, &key, message))?;
+    }
     Ok(())
 }
 

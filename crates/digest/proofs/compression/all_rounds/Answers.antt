@@ -1,25 +1,29 @@
-use Rattle.std.proofs.Common.{◌≡◌, suc, ◌+◌, ◌*◌, refl, add-zero, arith}
-use Rattle.digest.specs.Sha256.{rounds}
+use Rattle.std.proofs.Common.{◌≡◌, ◌/◌, length, ap, ◌∙◌, refl, fold, rules}
+use Rattle.std.proofs.lemmas.Iterator.{YieldsList-from_slice, YieldsList-from_zip}
+use Rattle.std.proofs.lemmas.Iterator.Consumers.{YieldsList-turn, YieldsList-end}
+use Rattle.std.proofs.lemmas.List.{length_push}
+use Rattle.std.specs.List.{zip}
+use Rattle.std.specs.Simd.{first_chunks}
+use Rattle.digest.specs.Sha256.{constants, round_of}
+use Rattle.digest.proofs.Schedule.{fold_turn, eights_done}
 use Rattle.digest.proofs.compression.all_rounds.Goals as goal
 
-pub loop-i-init : goal.loop-i-init
-unfolding rounds
-loop-i-init c = refl
-
-pub loop-j-init : goal.loop-j-init
-loop-j-init c = λ s h. rw (add-zero (8 * c.loop-i.i)) h
-
-pub loop-j-preserved : goal.loop-j-preserved
-unfolding rounds
-loop-j-preserved c = λ s h.
-    let more : 8 * c.loop-i.i + (c.loop-j.j + 1) ≡ suc (8 * c.loop-i.i + c.loop-j.j) = omega arith in
-    let before = c.loop-j.invariant s h in
-    rw more (cc)
-
-pub loop-i-preserved : goal.loop-i-preserved
-loop-i-preserved c =
-    let more : 8 * (c.loop-i.i + 1) ≡ 8 * c.loop-i.i + c.loop-j.j = omega arith in
-    rw more (c.loop-j.invariant c.args.first c.loop-i.invariant)
+pub loop-k-preserved : goal.loop-k-preserved
+loop-k-preserved c =
+    let all = YieldsList-from_zip {s = c.into_iter-k-iterator.result} (YieldsList-from_slice _ refl) (YieldsList-from_slice _ refl) in
+    let turn = YieldsList-turn all c.loop-k.yielded c.loop-k.k-iterator c.loop-k.yielded_by c.next.result c.next.new.self (c.in-Some.k, c.in-Some.w) c.in-Some.is c.next.ensures.steps in
+    fold_turn (λ s q. fold (λ t p. round_of t p.0 p.1) s (zip q.0 q.1)) c.args.first c.loop-k.s c.eight_rounds-next.result _ _ _ (c.in-Some.k.now, c.in-Some.w.now) c.loop-k.invariant turn.0 turn.1 c.eight_rounds-next.ensures (length_push c.loop-k.yielded _)
 
 pub returns : goal.returns
-returns c = let e : 8 * c.loop-i.i ≡ 64 = omega arith in cc
+unfolding constants
+returns c =
+    let eights = c.into_iter-k-iterator.result in
+    let all = YieldsList-from_zip {s = eights} (YieldsList-from_slice _ refl) (YieldsList-from_slice _ refl) in
+    let end = YieldsList-end all c.loop-k.yielded c.loop-k.k-iterator c.loop-k.yielded_by c.next.result c.next.new.self c.in-None.is c.next.ensures.steps in
+    let given = c.into_iter-k-iterator.ensures.into_iter_gives in
+    let table : c.as_chunks.result.0.now ≡ first_chunks 8 8 constants = search rules in
+    let many : length c.args.w ≡ 64 = search rules in
+    eights_done c.args.w c.args.first c.loop-k.s eights.a.rest.now eights.b.rest.now _ many
+    (ap (λ i. i.a.rest.now) given ∙ ap (λ i. i.rest.now) c.zip-k-items.ensures.first ∙ c.iter.ensures.rest ∙ table)
+    (ap (λ i. i.b.rest.now) given ∙ c.zip-k-items.ensures.second.0 ∙ c.as_chunks-2.ensures.front ∙ ap (λ n. first_chunks 8 (n / 8) c.args.w) many)
+    end.1 c.loop-k.invariant

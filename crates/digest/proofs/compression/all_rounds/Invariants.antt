@@ -1,10 +1,9 @@
-use Rattle.std.proofs.Common.{◌≡◌, ℕ, ◌+◌, ◌*◌, List}
-use Rattle.digest.specs.Sha256.{rounds}
+use Rattle.std.proofs.Common.{◌≡◌, length, take, fold}
+use Rattle.std.specs.List.{zip}
+use Rattle.digest.specs.Sha256.{round_of}
 use Rattle.digest.proofs.compression.all_rounds.Given as goal
 
-abbrev pub invariant-loop-i : goal.invariant-loop-i
-invariant-loop-i l = l.s ≡ rounds l.w l.initial.s (8 * l.i)
-
--- the rounds before 8 * i were done before this loop
-abbrev pub invariant-loop-j : goal.invariant-loop-j
-invariant-loop-j l = (s : List ℕ) → l.initial.s ≡ rounds l.w s (8 * l.i) → l.s ≡ rounds l.w s (8 * l.i + l.j)
+abbrev pub invariant-loop-k : goal.invariant-loop-k
+invariant-loop-k l =
+    let eights = l.initial.k-iterator in
+    l.s ≡ fold (λ s q. fold (λ t p. round_of t p.0 p.1) s (zip q.0 q.1)) l.fn.first (take (length l.yielded) (zip eights.a.rest.now eights.b.rest.now))

@@ -1,14 +1,11 @@
-use Rattle.std.proofs.Common.{sym, ◌∙◌, arith}
-use Rattle.digest.proofs.Blocks.{whole_turn, whole_none}
+use Rattle.std.proofs.Common.{arith}
+use Rattle.std.proofs.lemmas.List.{take_all}
+use Rattle.digest.proofs.Blocks.{whole_folded}
 use Rattle.digest.proofs.hash.absorb.Goals as goal
-
-pub loop-block-preserved : goal.loop-block-preserved
-loop-block-preserved c =
-    let found = c.in-Some.ensures.cases in
-    whole_turn c.loop-block.s c.loop-block.rest.now c.in-Some.block.now c.in-Some.after.now c.compress-next.result
-    (omega arith) found.0 found.1 c.compress-next.ensures
-    ∙ c.loop-block.invariant
 
 pub returns : goal.returns
 returns c =
-    sym (whole_none c.loop-block.s c.loop-block.rest.now c.in_default.ensures.cases) ∙ c.loop-block.invariant
+    let all = take_all c.loop-block.block-index c.as_chunks.result.0.now (omega arith) in
+    let blocks = whole_folded c.args.first c.args.blocks.now in
+    let front = c.as_chunks.ensures.front in
+    cc

@@ -32,9 +32,6 @@ returns-in_err-check c =
     let b = unaltered out _ _ (d ∙ fault) in
     rw (e.1, e.2) (record { answer = a; bytes = b; decoded = decoded_by text out out (Err _) a b; shown = decodes_shown_by text out out (Err _) a b })
 
-pub fill-requires : goal.fill-requires
-fill-requires c = (record { room = omega arith; no_fault = sound _ c.in_ok-check.ensures })
-
 pub returns : goal.returns
 returns c =
     let text = c.args.hex.now in

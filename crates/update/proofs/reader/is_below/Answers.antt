@@ -2,7 +2,7 @@ use Rattle.std.proofs.Common.{refl, arith}
 use Rattle.std.specs.Ordering.{is_lt, nat_cmp}
 use Rattle.std.proofs.lemmas.Cmp.{same_from_slice_cmp_tested}
 use Rattle.std.proofs.lemmas.Bool.Decides.{nat_tests}
-use Rattle.update.specs.Order.{below}
+use Rattle.outcome.specs.Order.{below}
 use Rattle.update.proofs.reader.is_below.Goals as goal
 
 pub returns : goal.returns

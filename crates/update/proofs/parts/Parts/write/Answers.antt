@@ -1,4 +1,4 @@
-use Rattle.std.proofs.Common.{◌≡◌, length, Ok, sym, refl, ◌∙◌, arith, rules}
+use Rattle.std.proofs.Common.{◌≡◌, length, Ok, sym, ◌∙◌, rules}
 use Rattle.std.proofs.lemmas.Result.{err_from_is_err_and}
 use Rattle.std.proofs.lemmas.Bool.{le-ltb}
 use Rattle.update.specs.declared.refusal.Refusal.{Refusal}
@@ -9,9 +9,6 @@ use Rattle.outcome.specs.Buffers.{after}
 use Rattle.outcome.proofs.Placing.{placed_front}
 use Rattle.update.proofs.Texts.{refused, written}
 use Rattle.update.proofs.parts.Parts.write.Goals as goal
-
-pub returns-then-out-lt-MAX_TEXT_LEN : goal.returns-then-out-lt-MAX_TEXT_LEN
-returns-then-out-lt-MAX_TEXT_LEN c = record { answer = search rules; bytes = search rules; writes_texts = record { not_formed = λ room _. omega arith; place = refl; unaltered = refl } }
 
 pub returns-in_err-check_parts : goal.returns-in_err-check_parts
 returns-in_err-check_parts c =

@@ -1,7 +1,0 @@
-use Rattle.std.proofs.Common.{refl}
-use Rattle.digest.specs.Sha256.{constants}
-use Rattle.digest.proofs.compression.constant.Goals as goal
-
-pub returns : goal.returns
-unfolding constants
-returns c = refl
