@@ -1,11 +1,20 @@
--- Zeros at the end of a key.
-use Rattle.std.proofs.Common.{◌≡◌, ℕ, ◌+◌, ◌-◌, ◌≤◌, List, ◌++◌, length, replicate, sym, ap, ◌∙◌, append_assoc, arith, length-append}
+-- Keys with zeros behind them.
+use Rattle.std.proofs.Common.{◌≡◌, ℕ, ◌+◌, ◌-◌, ◌≤◌, List, ◌++◌, length, map, replicate, sym, ap, ◌∙◌, append_assoc, arith, length-append}
+use lib.Bits.{bit_xor}
 use lib.ListN.{length-replicate, replicate-append-replicate}
 use Rattle.std.proofs.lemmas.Bool.{le-ltb}
 use Rattle.digest.specs.Hmac.{short_key, filled, xored, key_block, hmac_sha256}
 
 short : (key : List ℕ) → length key ≤ 64 → short_key key ≡ key
 short key h = rw (le-ltb 64 (length key) h)
+
+pub length-filled : (key : List ℕ) → length key ≤ 64 → length (filled key) ≡ 64
+length-filled key h = simp (length-append, length-replicate) (omega arith)
+
+-- each byte of the filled key, xored
+pub key_padded : (x : ℕ) (key : List ℕ) → length key ≤ 64 → map (λ b. bit_xor b x) (filled key) ≡ key_block x key
+unfolding key_block
+key_padded x key h = rw (short key h)
 
 filled_more : (key : List ℕ) (n : ℕ) → length key + n ≤ 64 → filled (key ++ replicate n 0) ≡ filled key
 filled_more key n h =

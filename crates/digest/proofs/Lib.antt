@@ -2,7 +2,6 @@ pub mod Schedule
 pub mod Arrays
 pub mod Blocks
 pub mod Padding
-pub mod KeyBlock
 pub mod Sizes
 pub mod Filling
 pub mod Standing

@@ -4,6 +4,7 @@ use borrow.Rule.Slice.PartMut.{put_mid}
 use lib.ListN.{length-replicate, replicate-append-replicate}
 use lib.Seq.{take-append-add}
 use Rattle.std.proofs.lemmas.List.{set_at, drop_all, drop-drop, drop-replicate, take-replicate}
+use Rattle.digest.specs.Hmac.{filled}
 use Rattle.digest.specs.Sha256.{whole, compressed, padding, be64}
 use Rattle.digest.proofs.Blocks.{whole_append, whole_first, whole_one}
 
@@ -19,14 +20,15 @@ pub length-padding : (n : ℕ) → length (padding n) ≡ 9 + (119 - n % 64) % 6
 unfolding padding
 length-padding n = simp (length-append, length-replicate) (omega arith)
 
--- a block of zeros with the rest of a message written over its front, and the byte 0x80 behind that
-pub marked : (rest front : List ℕ) → length rest < 64 → front ≡ rest
-    → set (front ++ drop (length rest) (replicate {A = ℕ} 64 0)) (length rest) 0x80 ≡ rest ++ (0x80 ∷ replicate (63 - length rest) 0)
-marked rest front h e =
+-- a block of zeros with bytes written over its front
+pub filled_up : (bytes front : List ℕ) → length bytes ≤ 64 → front ≡ bytes → front ++ drop (length bytes) (replicate {A = ℕ} 64 0) ≡ filled bytes
+filled_up bytes front h e = rw (e, drop-replicate {X = ℕ} (length bytes) 64 0)
+
+-- and the byte 0x80 behind them
+pub marked : (rest block : List ℕ) → length rest < 64 → block ≡ filled rest → set block (length rest) 0x80 ≡ rest ++ (0x80 ∷ replicate (63 - length rest) 0)
+marked rest block h e =
     let k : 64 - length rest ≡ suc (63 - length rest) = omega arith in
-    let zeros : drop (length rest) (replicate {A = ℕ} 64 0) ≡ 0 ∷ replicate (63 - length rest) 0 =
-    drop-replicate (length rest) 64 0 ∙ ap (λ (n : ℕ). replicate n 0) k in
-    rw (e, zeros, set_at rest 0 (replicate (63 - length rest) 0) 0x80 (length rest) refl)
+    rw (e, k, set_at rest 0 (replicate (63 - length rest) 0) 0x80 (length rest) refl)
 
 -- a block with its last eight bytes overwritten
 pub ended : (block bits : List ℕ) → length block ≡ 64 → put_mid 56 8 block bits ≡ take 56 block ++ bits

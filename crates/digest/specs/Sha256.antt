@@ -1,6 +1,6 @@
 -- SHA-256 as FIPS 180-4 defines it, over bytes and words as numbers: a byte is below 2 ^ 8, a word below 2 ^ 32.
 -- The standard's section stands before each definition.
-use Rattle.std.specs.Prelude.{ℕ, zero, suc, ◌+◌, ◌-◌, ◌*◌, ◌/◌, ◌%◌, ◌^◌, cond, List, [], ◌∷◌, ◌++◌, length, take, drop, replicate, bit_and, bit_or, bit_xor, nat_lt, slice_index, slice_index_or}
+use Rattle.std.specs.Prelude.{ℕ, zero, suc, ◌+◌, ◌-◌, ◌*◌, ◌/◌, ◌%◌, ◌^◌, List, [], ◌∷◌, ◌++◌, length, take, drop, replicate, bit_and, bit_or, bit_xor, slice_index, slice_index_or}
 use Rattle.std.specs.List.{flat_map}
 
 -- 2.2.2, 3.2: operations on words
@@ -83,10 +83,6 @@ word_at b i = slice_index b (4 * i) * 16777216 + slice_index b (4 * i + 1) * 655
 -- and here the length stands modulo 2 ^ 64.
 unfoldable pub padding : ℕ → List ℕ
 padding n = 0x80 ∷ (replicate ((119 - n % 64) % 64) 0 ++ be64 ((n * 8) % 2 ^ 64))
-
--- the last blocks, where so many bytes are left behind the whole ones: one if the padding fits into it, else two
-abbrev pub last_size : ℕ → ℕ
-last_size rest = cond (nat_lt 55 rest) 128 64
 
 -- 6.2.2, step 1: the message schedule, which begins with the words of the block and grows by a word at a time
 

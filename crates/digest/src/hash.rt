@@ -1,5 +1,6 @@
 // SHA-256 of messages of any length.
-ghost use Rattle.std.specs.Prelude.{◌≡◌, ◌+◌, ◌-◌, ◌*◌, ◌%◌, ◌^◌, ◌<◌, ◌++◌, ◌∷◌, length, take, replicate};
+ghost use Rattle.std.specs.Prelude.{◌≡◌, ◌+◌, ◌-◌, ◌*◌, ◌%◌, ◌^◌, ◌<◌, ◌≤◌, ◌++◌, ◌∷◌, length, take, replicate};
+ghost use Rattle.digest.specs.Hmac.{filled};
 ghost use Rattle.digest.specs.Sha256.{be64, bytes_of, padding, whole, digest_from, sha256};
 
 use crate::Digest;
@@ -20,14 +21,24 @@ pub(crate) fn absorb(first: [u32; 8], blocks: &[u8]) -> [u32; 8]
     s
 }
 
+// The bytes, with zeros up to a block.
+#[tactic(auto, using(crate::proofs::Padding::filled_up))]
+pub(crate) fn zero_filled(front: &[u8]) -> [u8; BLOCK_LEN]
+    requires { length front.now ≤ 64 }
+    ensures { result ≡ filled front.now }
+{
+    let mut block = [0; BLOCK_LEN];
+    block[..front.len()].copy_from_slice(front);
+    block
+}
+
 // A block that begins with the rest of a message and the bit behind it.
 #[tactic(auto, using(crate::proofs::Padding::marked))]
 fn marked(rest: &[u8]) -> [u8; BLOCK_LEN]
     requires { length rest.now < 64 }
     ensures { result ≡ rest.now ++ (0x80 ∷ replicate (63 - length rest.now) 0) }
 {
-    let mut block = [0; BLOCK_LEN];
-    block[..rest.len()].copy_from_slice(rest);
+    let mut block = zero_filled(rest);
     block[rest.len()] = 0x80;
     block
 }
@@ -77,6 +88,7 @@ pub(crate) fn finish(s: [u32; 8], before: u64, message: &[u8]) -> Digest
 {
     let state = absorb(s, message);
     let rest = message.as_chunks::<BLOCK_LEN>().1;
+    // A length always fits; the library has no `From` for it.
     let len = before.wrapping_add(message.len() as u64);
     let last = absorb_last(state, rest, len);
     Digest::new(to_bytes(last))

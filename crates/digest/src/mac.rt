@@ -5,7 +5,7 @@ ghost use Rattle.digest.specs.Sha256.{sha256};
 
 use crate::Digest;
 use crate::compression::{BLOCK_LEN, START};
-use crate::hash::{absorb, finish};
+use crate::hash::{absorb, finish, zero_filled};
 
 const INNER_PAD: u8 = 0x36;
 
@@ -15,9 +15,7 @@ const OUTER_PAD: u8 = 0x5c;
 fn padded_key(key: &[u8; 32], pad: u8) -> [u8; BLOCK_LEN]
     ensures { result ≡ key_block pad key.now }
 {
-    let mut block = [0; BLOCK_LEN];
-    block[..key.len()].copy_from_slice(key);
-    block.map(|byte| byte ^ pad)
+    zero_filled(key).map(|byte| byte ^ pad)
 }
 
 // The digest of the padded key and then the message.

@@ -6,6 +6,7 @@ use crate::Digest;
 use hexadecimal::show::Hex;
 use std::fmt;
 
+// One constructor and one accessor of the private bytes: `From` would say no more.
 impl Digest {
     pub fn new(bytes: [u8; 32]) -> Digest
         ensures { result.bytes ≡ bytes }

@@ -5,7 +5,7 @@ ghost use Rattle.outcome.specs.Buffers.{after, size};
 
 use std::fmt;
 
-#[derive(Clone, Copy, PartialEq, Eq, Debug)]
+#[derive(Clone, Copy, Debug)]
 pub enum HexError {
     // The buffer has less than a byte for every two characters.
     SmallBuffer,
@@ -66,7 +66,7 @@ fn fill(hex: &[u8], out: &mut [u8])
 }
 
 // Writes the bytes of a text at the start of the buffer, and answers how many they are; or answers
-// the text's first fault, and writes nothing.
+// the text's first fault, and writes nothing. The caller lends the memory.
 pub fn decode(hex: &[u8], out: &mut [u8]) -> Result<usize, HexError>
     ensures answer { result ≡ size (decoding (length out.old) hex.now) }
     ensures bytes { out.new ≡ after (decoding (length out.old) hex.now) out.old }

@@ -11,6 +11,7 @@ pub struct Hex<'a> {
     pub bytes: &'a [u8],
 }
 
+// A function of its own, since a proof knows that a byte is below 256 where it is a parameter.
 fn put_byte<W: fmt::Write>(f: &mut fmt::Formatter<W>, b: u8) -> fmt::Result
     ensures { WritesOnOk W.write_str_gives f.old result (byte_shown b) f.new }
 {

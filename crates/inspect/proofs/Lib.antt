@@ -1,1 +1,1 @@
-pub mod Phrases
+pub mod Lines

@@ -32,14 +32,14 @@ report_shown (Ok u) = update_shown u.length (contents u.parts)
 report_shown (Err e) = error_shown e
 
 -- what is read of a text is what the reader answers
-abbrev pub Reads : List ℕ → Result Update Refusal → Type 0
-Reads t (Ok u) = (u.length ≡ length t) × (reads t ≡ Ok (contents u.parts))
-Reads t (Err e) = reads t ≡ Err e
+abbrev pub ReadsText : List ℕ → Result Update Refusal → Type 0
+ReadsText t (Ok u) = (u.length ≡ length t) × (reads t ≡ Ok (contents u.parts))
+ReadsText t (Err e) = reads t ≡ Err e
 
 -- what is read of a line is what is read of the bytes that it spells, or its fault
 abbrev pub ReportsLine : Result (List ℕ) HexError → Result Update LineError → Type 0
-ReportsLine (Ok t) (Ok u) = Reads t (Ok u)
-ReportsLine (Ok t) (Err (Refused e)) = Reads t (Err e)
+ReportsLine (Ok t) (Ok u) = ReadsText t (Ok u)
+ReportsLine (Ok t) (Err (Refused e)) = ReadsText t (Err e)
 ReportsLine (Ok t) (Err (NotHex e)) = ⊥
 ReportsLine (Err e) r = r ≡ Err (NotHex e)
 

@@ -13,6 +13,11 @@ printable b = nat_le 32 b && nat_le b 126
 abbrev pub text_in : List ℕ → Option (List ℕ)
 text_in v = cond (list_all printable v) (Some v) None
 
+-- nothing where there is nothing
+abbrev pub if_there : {A : Type 0} → (A → Option (List ℕ)) → Option A → Option (List ℕ)
+if_there output None = Some []
+if_there output (Some x) = output x
+
 abbrev pub address_shown : Option Address → List ℕ
 address_shown None = []
 address_shown (Some a) = codes "\n  table " ++ decimal a.table ++ codes ", row " ++ decimal a.row ++ codes ", column " ++ decimal a.column

@@ -3,7 +3,7 @@ ghost use Rattle.std.specs.Prelude.{◌≡◌, Some, is_some};
 ghost use Rattle.std.specs.Option.{option_map};
 ghost use Rattle.std.specs.List.{list_all};
 ghost use Rattle.update.specs.Contents.{borrowed, contents};
-ghost use Rattle.inspect.specs.Shown.{printable, text_in, address_shown, value_shown, predecessors_shown, seal_shown, parts_shown};
+ghost use Rattle.inspect.specs.Shown.{if_there, printable, text_in, address_shown, value_shown, predecessors_shown, seal_shown, parts_shown};
 
 use hexadecimal::show::Hex;
 use std::fmt;
@@ -25,16 +25,29 @@ fn as_text(bytes: &[u8]) -> Option<&str>
     from_utf8(bytes).ok()
 }
 
+// What is there, or nothing.
 #[derive(Clone, Copy)]
-struct AddressLine(Option<Address>);
+struct IfThere<T>(Option<T>);
 
-impl fmt::Display for AddressLine {
-    ghost output = { λ line. Some (address_shown line.0) };
+impl<T: fmt::Display> fmt::Display for IfThere<T> {
+    ghost output = { λ o. if_there T.output o.0 };
 
     fn fmt<W: fmt::Write>(&self, f: &mut fmt::Formatter<W>) -> fmt::Result {
-        let Some(Address { table, row, column }) = self.0 else {
-            return Ok(());
-        };
+        match &self.0 {
+            Some(line) => line.fmt(f),
+            None => Ok(()),
+        }
+    }
+}
+
+#[derive(Clone, Copy)]
+struct AddressLine(Address);
+
+impl fmt::Display for AddressLine {
+    ghost output = { λ line. Some (address_shown (Some line.0)) };
+
+    fn fmt<W: fmt::Write>(&self, f: &mut fmt::Formatter<W>) -> fmt::Result {
+        let Address { table, row, column } = self.0;
         write!(f, "\n  table {table}, row {row}, column {column}")
     }
 }
@@ -65,16 +78,13 @@ impl fmt::Display for ValueLine<'_> {
 }
 
 #[derive(Clone, Copy)]
-struct PredecessorLines<'a>(Option<&'a [u8]>);
+struct PredecessorLines<'a>(&'a [u8]);
 
 impl fmt::Display for PredecessorLines<'_> {
-    ghost output = { λ lines. Some (predecessors_shown (borrowed lines.0)) };
+    ghost output = { λ lines. Some (predecessors_shown (Some lines.0.now)) };
 
     fn fmt<W: fmt::Write>(&self, f: &mut fmt::Formatter<W>) -> fmt::Result {
-        let Some(bytes) = self.0 else {
-            return Ok(());
-        };
-        let (digests, _) = bytes.as_chunks::<32>();
+        let (digests, _) = self.0.as_chunks::<32>();
         for digest in digests {
             let hex = Hex { bytes: digest };
             write!(f, "\n  predecessor {hex}")?;
@@ -84,16 +94,13 @@ impl fmt::Display for PredecessorLines<'_> {
 }
 
 #[derive(Clone, Copy)]
-struct SealLine<'a>(Option<&'a [u8]>);
+struct SealLine<'a>(&'a [u8]);
 
 impl fmt::Display for SealLine<'_> {
-    ghost output = { λ line. Some (seal_shown (borrowed line.0)) };
+    ghost output = { λ line. Some (seal_shown (Some line.0.now)) };
 
     fn fmt<W: fmt::Write>(&self, f: &mut fmt::Formatter<W>) -> fmt::Result {
-        let Some(bytes) = self.0 else {
-            return Ok(());
-        };
-        let hex = Hex { bytes };
+        let hex = Hex { bytes: self.0 };
         write!(f, "\n  seal {hex}")
     }
 }
@@ -113,10 +120,10 @@ impl fmt::Display for PartLines<'_> {
             value,
             seal,
         } = self.0;
-        let address_line = AddressLine(address);
+        let address_line = IfThere(address.map(AddressLine));
         let value_line = ValueLine { address, value };
-        let predecessor_lines = PredecessorLines(predecessors);
-        let seal_line = SealLine(seal);
+        let predecessor_lines = IfThere(predecessors.map(PredecessorLines));
+        let seal_line = IfThere(seal.map(SealLine));
         write!(
             f,
             "\n  author {author}{address_line}{value_line}{predecessor_lines}{seal_line}"

@@ -4,7 +4,7 @@
 mod fields;
 mod report;
 
-use crate::report::{Tally, Update};
+use crate::report::{Report, Tally, Update};
 use std::io::{BufRead, BufReader};
 
 fn run(rt: &HostRuntime) -> anyhow::Result<()> {
@@ -14,12 +14,9 @@ fn run(rt: &HostRuntime) -> anyhow::Result<()> {
     for (number, line) in (1u64..).zip(lines) {
         let line = line?;
         let mut room = vec![in heap; 0u8; line.len() / 2]?;
-        let report = Update::of_line(line.as_slice(), room.as_mut_slice());
-        tally.count(report);
-        match report {
-            Ok(update) => println!(rt; "{number}: {update}")?,
-            Err(error) => println!(rt; "{number}: {error}")?,
-        }
+        let report = Report(Update::of_line(line.as_slice(), room.as_mut_slice()));
+        tally.count(report.0);
+        println!(rt; "{number}: {report}")?;
     }
     println!(rt; "{tally}")?;
     Ok(())

@@ -3,7 +3,7 @@ ghost use Rattle.std.specs.Prelude.{◌≡◌, length, Some};
 ghost use Rattle.hexadecimal.specs.Decoding.{decoding};
 ghost use Rattle.update.specs.Contents.{contents};
 ghost use Rattle.inspect.specs.declared.report.LineError.TheVariants.{Refused, NotHex};
-ghost use Rattle.inspect.specs.Reports.{update_shown, error_shown, report_shown, line_shown, Reads, ReportsLine, tallied, tally_shown};
+ghost use Rattle.inspect.specs.Reports.{update_shown, error_shown, report_shown, line_shown, ReadsText, ReportsLine, tallied, tally_shown};
 
 use crate::fields::PartLines;
 use hexadecimal::decode::{HexError, decode};
@@ -43,7 +43,7 @@ impl From<HexError> for LineError {
 
 impl<'a> Update<'a> {
     pub fn read(text: &'a [u8]) -> Result<Update<'a>, Refusal>
-        ensures { Reads text.now result }
+        ensures { ReadsText text.now result }
     {
         let parts = Parts::read(text)?;
         let length = text.len();
@@ -81,6 +81,21 @@ impl fmt::Display for LineError {
                 write!(f, "refused {number} at {place}: {refusal}")
             }
             LineError::NotHex(error) => write!(f, "not hexadecimal: {error}"),
+        }
+    }
+}
+
+// What is shown of a line.
+#[derive(Clone, Copy)]
+pub struct Report<'a>(pub Result<Update<'a>, LineError>);
+
+impl fmt::Display for Report<'_> {
+    ghost output = { λ r. Some (report_shown r.0) };
+
+    fn fmt<W: fmt::Write>(&self, f: &mut fmt::Formatter<W>) -> fmt::Result {
+        match self.0 {
+            Ok(update) => write!(f, "{update}"),
+            Err(error) => write!(f, "{error}"),
         }
     }
 }

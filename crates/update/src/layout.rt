@@ -11,7 +11,7 @@ pub(crate) const MAX_PREDECESSORS: u8 = 8;
 
 pub(crate) const MAX_VALUE_LEN: u8 = 64;
 
-// The fields of a text, each with the bit of the map that says that it is there.
+// The fields of a text, each with the bit of the map that says that it is there; `as u8` gives the bit.
 #[derive(Clone, Copy)]
 pub(crate) enum Field {
     Author = 1,
@@ -21,5 +21,5 @@ pub(crate) enum Field {
     Seal = 16,
 }
 
-// The lowest of the bits that are always clear.
+// The lowest of the bits that are always clear: no field, but a bound of the map as a number.
 pub(crate) const UNUSED: u8 = 32;

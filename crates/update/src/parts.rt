@@ -9,8 +9,9 @@ pub struct Address {
 }
 
 // What an update text says. The fields that are there borrow their bytes from the text; the
-// predecessors are digests of 32 bytes each, one behind the other.
-#[derive(Clone, Copy, PartialEq, Eq, Debug)]
+// predecessors are digests of 32 bytes each, one behind the other. A list of any length may be passed,
+// and is refused, so they are no array of digests.
+#[derive(Clone, Copy, Debug)]
 pub struct Parts<'a> {
     pub author: u16,
     pub address: Option<Address>,

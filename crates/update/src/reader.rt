@@ -1,6 +1,6 @@
 // The reader of update texts. The order of its checks decides which refusal and which place is
 // answered: the map, then each field in turn, then bytes left over.
-ghost use Rattle.std.specs.Prelude.{◌≡◌, ◌-◌, ◌≤◌, length, []};
+ghost use Rattle.std.specs.Prelude.{◌≡◌, ◌-◌, ◌≤◌, length, [], IfSome};
 ghost use Rattle.update.specs.Contents.{contents};
 ghost use Rattle.update.specs.Laws.{AcceptsTexts};
 ghost use Rattle.outcome.specs.Order.{below};
@@ -29,7 +29,7 @@ fn is_below(a: &[u8], b: &[u8]) -> bool
 
 impl<'a> Reader<'a> {
     ghost use Rattle.update.specs.Reading.{cut_at, count_at, author_at, address_at, ascending_at, predecessors_at, value_at, seal_at, end_at};
-    ghost use Rattle.update.specs.Reader.{Reads, ReadsIf};
+    ghost use Rattle.update.specs.Reader.{Reads, ReadsIf, Takes};
 
     pub(crate) fn new(text: &'a [u8]) -> Reader<'a>
         ensures rest { result.rest.now ≡ text.now }
@@ -47,28 +47,28 @@ impl<'a> Reader<'a> {
         self.total - self.rest.len()
     }
 
+    // The front of what is left, once it is cut; else the text ends inside a field.
+    fn take<T>(&mut self, cut: Option<(T, &'a [u8])>) -> Result<T, Refusal>
+        requires { IfSome cut (λ p. length p.1.now ≤ self.old.total) }
+        ensures { Takes cut.entry self.old result self.new }
+    {
+        let (front, rest) = cut.ok_or(Refusal::BadLength(self.total))?;
+        self.rest = rest;
+        Ok(front)
+    }
+
     // The next `N` bytes.
     fn array<const N: usize>(&mut self) -> Result<&'a [u8; N], Refusal>
         ensures { Reads (λ x. x.now) (λ total. cut_at total N) self.old result self.new }
     {
-        let (front, rest) = self
-            .rest
-            .split_first_chunk::<N>()
-            .ok_or(Refusal::BadLength(self.total))?;
-        self.rest = rest;
-        Ok(front)
+        self.take(self.rest.split_first_chunk::<N>())
     }
 
     // The next `n` bytes.
     fn slice(&mut self, n: usize) -> Result<&'a [u8], Refusal>
         ensures { Reads (λ x. x.now) (λ total. cut_at total n) self.old result self.new }
     {
-        let (front, rest) = self
-            .rest
-            .split_at_checked(n)
-            .ok_or(Refusal::BadLength(self.total))?;
-        self.rest = rest;
-        Ok(front)
+        self.take(self.rest.split_at_checked(n))
     }
 
     // A byte from 1 to `most`, else `fault`.
@@ -85,6 +85,7 @@ impl<'a> Reader<'a> {
     fn author(&mut self) -> Result<u16, Refusal>
         ensures { Reads (λ x. x) author_at self.old result self.new }
     {
+        // Bytes that are always there are taken by a slice pattern, as the map is.
         let [high, low, rest @ ..] = self.rest else {
             return Err(Refusal::BadLength(self.total));
         };
@@ -139,7 +140,7 @@ impl<'a> Reader<'a> {
         self.slice(SEAL_LEN)
     }
 
-    // A field that is there only if its bit stands: there is no value before it is read.
+    // A field that is there only if its bit stands, which `present` says: the value is still to be read.
     fn optional<T, F>(&mut self, present: bool, read: F) -> Result<Option<T>, Refusal>
     where
         F: FnOnce(&mut Reader<'a>) -> Result<T, Refusal>,

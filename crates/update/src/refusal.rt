@@ -5,7 +5,7 @@ ghost use Rattle.update.specs.Refusals.{number_of, place_of, cause_of};
 use std::fmt;
 
 // A refusal leaves everything as it was. Those about a text's bytes hold the place, a byte index.
-#[derive(Clone, Copy, PartialEq, Eq, Debug)]
+#[derive(Clone, Copy, Debug)]
 pub enum Refusal {
     BadLength(usize),
     BadMap,

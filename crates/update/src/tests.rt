@@ -29,7 +29,7 @@ fn full<'a>(digests: &'a [u8], value: &'a [u8], seal: &'a [u8]) -> Parts<'a> {
     }
 }
 
-// The number and place of a refusal.
+// The number and place of a refusal, as users are told them.
 fn told<T: Drop>(answer: Result<T, Refusal>) -> Option<(u8, usize)> {
     let refusal = answer.err()?;
     Some((refusal.number(), refusal.place()))

@@ -60,6 +60,7 @@ fn check_parts(parts: Parts) -> Result<(), Refusal>
     Ok(())
 }
 
+// The map needs only whether the field is there, and no value of it.
 fn flag(present: bool, field: Field) -> u8
     ensures { result ≡ (if present then bit_of field else 0) }
 {
@@ -111,6 +112,7 @@ impl Writer<'_> {
         ensures { Wrote self.old (counted_bytes unit (borrowed field.entry)) self.new }
     {
         if let Some(field) = field {
+            // `few_units` bounds it: `try_from` would add a refusal that never comes.
             self.put(&[(field.len() / unit) as u8]);
             self.put(field);
         }

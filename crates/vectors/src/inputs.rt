@@ -7,6 +7,7 @@ use std::array;
 pub fn pattern() -> [u8; 1000]
     ensures { (k : ℕ) → k < 1000 → slice_index result k ≡ k % 251 }
 {
+    // The remainder fits: `try_from` would add a refusal that never comes.
     array::from_fn(|i| (i % 251) as u8)
 }
 

@@ -1,6 +1,6 @@
 use Rattle.std.proofs.Common.{sym, ap, ◌∙◌}
 use Rattle.std.specs.Option.{option_map}
-use Rattle.inspect.proofs.Phrases.{text_read}
+use Rattle.inspect.proofs.Lines.{text_read}
 use Rattle.inspect.proofs.fields.as_text.Goals as goal
 
 pub returns : goal.returns
