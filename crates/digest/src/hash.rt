@@ -1,7 +1,7 @@
 // SHA-256 of messages of any length.
 ghost use Rattle.std.specs.Prelude.{◌≡◌, ◌+◌, ◌-◌, ◌*◌, ◌%◌, ◌^◌, ◌<◌, ◌≤◌, ◌++◌, ◌∷◌, length, take, replicate};
 ghost use Rattle.digest.specs.Hmac.{filled};
-ghost use Rattle.digest.specs.Sha256.{be64, bytes_of, padding, whole, digest_from, sha256};
+ghost use Rattle.digest.specs.Sha256.{be32, be64, bytes_of, padding, whole, digest_from, sha256};
 
 use crate::Digest;
 use crate::compression::{BLOCK_LEN, START, compress};
@@ -71,10 +71,17 @@ fn absorb_last(s: [u32; 8], rest: &[u8], len: u64) -> [u32; 8]
     }
 }
 
+// A word's bytes, the highest first.
+fn word_bytes(word: u32) -> [u8; 4]
+    ensures { result ≡ be32 word }
+{
+    word.to_be_bytes()
+}
+
 fn to_bytes(s: [u32; 8]) -> [u8; 32]
     ensures { result ≡ bytes_of s }
 {
-    let words = s.map(u32::to_be_bytes);
+    let words = s.map(word_bytes);
     let mut bytes = [0; 32];
     bytes.copy_from_slice(words.as_flattened());
     bytes

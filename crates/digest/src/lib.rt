@@ -13,7 +13,7 @@ pub use hash::sha256;
 pub use mac::hmac_sha256;
 
 // The 32 bytes that name a text, or seal one.
-#[derive(Clone, Copy, PartialEq, Eq, PartialOrd, Ord)]
+#[derive(Clone, Copy, PartialEq, Eq)]
 pub struct Digest {
     bytes: [u8; 32],
     ghost whole: { length bytes ≡ 32 },

@@ -6,12 +6,15 @@ mod report;
 
 use crate::report::{Report, Tally, Update};
 use std::io::{BufRead, BufReader};
+use std::iter::successors;
 
 fn run(rt: &HostRuntime) -> anyhow::Result<()> {
     let heap = rt.alloc();
     let mut tally = Tally::new();
     let lines = BufReader::new(heap, rt.stdin())?.split(heap, b'\n');
-    for (number, line) in (1u64..).zip(lines) {
+    // A range would end the reading with its numbers: these stop at the last one.
+    let numbers = successors(Some(1u64), |number| Some(number.saturating_add(1)));
+    for (number, line) in numbers.zip(lines) {
         let line = line?;
         let mut room = vec![in heap; 0u8; line.len() / 2]?;
         let report = Report(Update::of_line(line.as_slice(), room.as_mut_slice()));

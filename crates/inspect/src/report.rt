@@ -14,8 +14,8 @@ use update::refusal::Refusal;
 // A text's length, and its parts.
 #[derive(Clone, Copy)]
 pub struct Update<'a> {
-    length: usize,
-    parts: Parts<'a>,
+    pub length: usize,
+    pub parts: Parts<'a>,
 }
 
 // Why a line shows no update.

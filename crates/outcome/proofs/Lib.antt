@@ -1,3 +1,4 @@
 pub mod Steps
 pub mod Placing
 pub mod Chunks
+pub mod Ranking
