@@ -27,7 +27,7 @@ impl Digest {
     }
 }
 
-// The first byte that differs tells. The library's comparison of arrays takes four times as long where that is
+// The first byte that differs tells. The library's comparison of arrays takes three times as long where that is
 // the first of all.
 fn order(a: &[u8; 32], b: &[u8; 32]) -> Ordering
     ensures { result ≡ bytes_rank a.now b.now }

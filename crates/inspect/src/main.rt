@@ -12,7 +12,7 @@ fn run(rt: &HostRuntime) -> anyhow::Result<()> {
     let heap = rt.alloc();
     let mut tally = Tally::new();
     let lines = BufReader::new(heap, rt.stdin())?.split(heap, b'\n');
-    // A range would end the reading with its numbers: these stop at the last one.
+    // A range would end the reading behind its last number: here that one stands before every further line.
     let numbers = successors(Some(1u64), |number| Some(number.saturating_add(1)));
     for (number, line) in numbers.zip(lines) {
         let line = line?;
